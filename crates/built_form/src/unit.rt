@@ -1,0 +1,186 @@
+//! The unit that the items of a file make.
+
+ghost use Rattle.std.specs.Prelude.{◌≡◌, ◌<◌, ◌≤◌, ◌+◌, List, [], ◌∷◌, ◌++◌, length, map, IfOk, OnOk, All};
+ghost use Rattle.std.specs.Str.{IsUtf8};
+ghost use Rattle.c_text.specs.Spelling.{IsWithin, text_of};
+ghost use Rattle.core_unit.specs.Units.{IsUnit};
+ghost use Rattle.built_form.specs.Built.{AreDeclared, IsItemBuilt, IsBuilt, IsItemWithin, scope_of, calls_of, effects_of, body_of, function_of, site_of, item_sites, functions_of, sites_of, unit_of, numbered};
+
+use crate::cursor::text_of;
+use crate::item::{Ending, Item};
+use crate::refusal::FormRefusal;
+use crate::scope::{Scope, is_reserved};
+use c_text::Token;
+use core_unit::{Body, FunctionInfo, FunctionList, Name, NumberList, SiteInfo, SiteList, Unit};
+use eff_types::{Effects, Level};
+use std::alloc::Global;
+
+/// The most functions that a file declares.
+const MAX_FUNCTIONS: usize = 4096;
+
+/// The effects of a function.
+pub fn effects(ending: &Ending) -> Effects
+    ensures { result ≡ effects_of ending.now }
+{
+    let level = match ending {
+        Ending::Plain => Level::Plain,
+        Ending::Marked | Ending::Defined(_) => Level::NonBlocking,
+    };
+    Effects {
+        level,
+        no_block_inference: false,
+        no_alloc_inference: false,
+    }
+}
+
+/// The name with this text.
+pub fn name(alloc: Global, text: &[u8]) -> Result<Name, FormRefusal>
+    ensures name { IfOk result (λ name. name ≡ text.now) }
+    ensures readable { OnOk result (IsUtf8 text.now) }
+    ensures none { result ≡ Err FormRefusal.NotBuilt → IsUtf8 text.now → ⊥ }
+{
+    match str::from_utf8(text) {
+        Ok(text) => Name::new(alloc, text).map_err(|_| FormRefusal::NoMemory),
+        Err(_) => Err(FormRefusal::NotBuilt),
+    }
+}
+
+/// Adds the call sites of the calls in the body of a function, and gives their numbers.
+pub fn call_sites(
+    alloc: Global,
+    source: &[u8],
+    scope: &Scope,
+    function: u32,
+    calls: &[Token],
+    sites: &mut SiteList,
+) -> Result<NumberList, FormRefusal>
+    requires within { All (IsWithin source.now) calls.now }
+    requires few { length scope.now ≤ 4096 }
+    requires room { length sites.old + length calls.now ≤ 1048576 }
+    ensures sites { OnOk result (sites.new ≡ sites.old ++ map (site_of source.now scope.now function) calls.now) }
+    ensures numbers { IfOk result (λ numbers. numbers ≡ numbered (length sites.old + 1) calls.now) }
+    ensures declared { OnOk result (AreDeclared source.now scope.now calls.now) }
+    ensures none { result ≡ Err FormRefusal.NotBuilt → AreDeclared source.now scope.now calls.now → ⊥ }
+{
+    let mut numbers = NumberList::new(alloc);
+    'calls: for call in calls {
+        let Some(callee) = scope.number(text_of(source, *call)) else {
+            return Err(FormRefusal::NotBuilt);
+        };
+        let site = SiteInfo {
+            function,
+            place: call.start,
+            direct: Some(callee as u32),
+        };
+        sites.push(site).map_err(|_| FormRefusal::NoMemory)?;
+        numbers
+            .push(sites.as_slice().len() as u32)
+            .map_err(|_| FormRefusal::NoMemory)?;
+    }
+    Ok(numbers)
+}
+
+/// Adds the call sites of a function, and gives its body.
+pub fn body(
+    alloc: Global,
+    source: &[u8],
+    scope: &Scope,
+    function: u32,
+    ending: &Ending,
+    sites: &mut SiteList,
+) -> Result<Option<Body>, FormRefusal>
+    requires within { All (IsWithin source.now) (calls_of ending.now) }
+    requires few { length scope.now ≤ 4096 }
+    requires room { length sites.old + length (calls_of ending.now) ≤ 1048576 }
+    ensures sites { OnOk result (sites.new ≡ sites.old ++ map (site_of source.now scope.now function) (calls_of ending.now)) }
+    ensures body { IfOk result (λ body. body ≡ body_of (length sites.old + 1) ending.now) }
+    ensures declared { OnOk result (AreDeclared source.now scope.now (calls_of ending.now)) }
+    ensures none { result ≡ Err FormRefusal.NotBuilt → AreDeclared source.now scope.now (calls_of ending.now) → ⊥ }
+{
+    match ending {
+        Ending::Plain | Ending::Marked => Ok(None),
+        Ending::Defined(calls) => {
+            let calls = call_sites(alloc, source, scope, function, calls.as_slice(), sites)?;
+            Ok(Some(Body { calls }))
+        }
+    }
+}
+
+/// The part of a unit that the first items of a file make.
+#[derive(Drop)]
+pub struct Builder<'a> {
+    scope: Scope<'a>,
+    functions: FunctionList,
+    sites: SiteList,
+}
+
+impl<'a> Builder<'a> {
+    /// The part without functions; it takes no memory.
+    pub fn new(alloc: Global) -> Builder<'a>
+        ensures scope { result.scope ≡ [] }
+        ensures functions { result.functions ≡ [] }
+        ensures sites { result.sites ≡ [] }
+    {
+        Builder {
+            scope: Scope::new(alloc),
+            functions: FunctionList::new(alloc),
+            sites: SiteList::new(alloc),
+        }
+    }
+
+    /// Adds the function of the next item.
+    pub fn add(&mut self, alloc: Global, source: &'a [u8], item: &Item) -> Result<(), FormRefusal>
+        requires within { IsItemWithin source.now item.now }
+        requires few { length self.old.scope < 4096 }
+        requires room { length self.old.sites + length (calls_of item.now.ending) ≤ 1048576 }
+        ensures built { OnOk result (IsItemBuilt source.now self.old.scope item.now) }
+        ensures scope { OnOk result (self.new.scope ≡ scope_of source.now self.old.scope item.now) }
+        ensures functions { OnOk result (self.new.functions ≡ self.old.functions ++ function_of source.now (length self.old.sites + 1) item.now ∷ []) }
+        ensures sites { OnOk result (self.new.sites ≡ self.old.sites ++ item_sites source.now self.old.scope item.now) }
+        ensures none { result ≡ Err FormRefusal.NotBuilt → IsItemBuilt source.now self.old.scope item.now → ⊥ }
+    {
+        let text = text_of(source, item.name);
+        if is_reserved(text) {
+            return Err(FormRefusal::NotBuilt);
+        }
+        let function = self.scope.len() as u32;
+        self.scope.declare(text)?;
+        let body = body(
+            alloc,
+            source,
+            &self.scope,
+            function,
+            &item.ending,
+            &mut self.sites,
+        )?;
+        let name = name(alloc, text)?;
+        let function = FunctionInfo {
+            name,
+            effects: effects(&item.ending),
+            place: item.name.start,
+            body,
+        };
+        self.functions
+            .push(function)
+            .map_err(|_| FormRefusal::NoMemory)
+    }
+}
+
+/// The unit of the items of a file.
+pub fn unit(alloc: Global, source: &[u8], items: &[Item]) -> Result<Unit, FormRefusal>
+    requires within { All (IsItemWithin source.now) items.now }
+    requires room { length (sites_of source.now [] items.now) ≤ 1048576 }
+    requires unit { IsBuilt source.now items.now → IsUnit (functions_of source.now 1 items.now) (sites_of source.now [] items.now) }
+    ensures built { OnOk result (IsBuilt source.now items.now) }
+    ensures means { IfOk result (λ unit. unit ≡ unit_of source.now items.now) }
+    ensures none { result ≡ Err FormRefusal.NotBuilt → IsBuilt source.now items.now → ⊥ }
+{
+    if items.len() > MAX_FUNCTIONS {
+        return Err(FormRefusal::NotBuilt);
+    }
+    let mut builder = Builder::new(alloc);
+    'items: for item in items {
+        builder.add(alloc, source, item)?;
+    }
+    Ok(Unit::new(builder.functions, builder.sites))
+}

@@ -1,0 +1,11 @@
+pub mod Cut
+pub mod Ends
+pub mod Characters
+pub mod Front
+pub mod Marks
+pub mod FirstBytes
+pub mod Numbers
+pub mod Reached
+pub mod Columns
+pub mod Within
+pub mod Values

@@ -1,0 +1,19 @@
+-- The only end is the end, and without one the beginning stands alone.
+use Rattle.std.proofs.Common.{Option, ℕ, refl, subst}
+use Rattle.c_text.specs.declared.form.Form.TheVariants.{Word, Stray}
+use Rattle.c_text.specs.declared.form.StrayKind.TheVariants.{OpenQuote}
+use Rattle.c_text.specs.declared.TokenKind.TheVariants.{Text}
+use Rattle.c_text.specs.Ends.{IsOnlyEnd}
+use Rattle.c_text.specs.Forms.{is_string_end}
+use Rattle.c_text.proofs.Front.{front_closed, front_unclosed}
+use Rattle.c_text.proofs.scan.string.Goals as goal
+
+pub returns-in-Some : goal.returns-in-Some
+returns-in-Some c =
+    let P : Option ℕ → Type 0 = λ o. IsOnlyEnd is_string_end o c.args.rest.now in
+    front_closed is_string_end (Word Text) (Stray OpenQuote) c.in-Some.length c.args.rest.now refl (subst P c.in-Some.is c.string_end.ensures)
+
+pub returns-in-None : goal.returns-in-None
+returns-in-None c =
+    let P : Option ℕ → Type 0 = λ o. IsOnlyEnd is_string_end o c.args.rest.now in
+    front_unclosed is_string_end (Word Text) (Stray OpenQuote) c.args.rest.now (subst P c.in-None.is c.string_end.ensures)

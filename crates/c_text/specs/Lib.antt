@@ -1,0 +1,10 @@
+pub mod Bytes
+pub mod Words
+pub mod Forms
+pub mod Numbers
+pub mod Escapes
+pub mod Faults
+pub mod Spelling
+pub mod Place
+pub mod Refusal
+pub mod Ends

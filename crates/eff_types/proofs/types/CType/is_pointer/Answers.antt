@@ -1,0 +1,6 @@
+use Rattle.std.proofs.Common.{sym}
+use Rattle.eff_types.proofs.Shapes.{is_pointer-other}
+use Rattle.eff_types.proofs.types.CType.is_pointer.Goals as goal
+
+pub returns-in_default : goal.returns-in_default
+returns-in_default c = sym (is_pointer-other c.args.self.now c.in_default.not-Pointer)

@@ -1,0 +1,5 @@
+pub mod Comparison
+pub mod Conversion
+pub mod Effects
+pub mod Laws
+pub mod Types

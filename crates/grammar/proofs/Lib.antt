@@ -1,0 +1,14 @@
+pub mod Lists
+pub mod Up
+pub mod Closed
+pub mod First
+pub mod Told
+pub mod Step
+pub mod Hit
+pub mod Short
+pub mod Prefix
+pub mod Pass
+pub mod Theorem
+pub mod Walk
+pub mod Conditions
+pub mod SumsFit

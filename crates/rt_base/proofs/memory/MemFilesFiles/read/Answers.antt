@@ -1,0 +1,19 @@
+use Rattle.std.proofs.Common.{ap, ◌∙◌}
+use Rattle.rt_base.specs.InMemory.{after_fault}
+use Rattle.rt_base.proofs.Faults.{after_fault-rose, after_fault-later, after_fault-same}
+use Rattle.rt_base.proofs.memory.MemFilesFiles.read.Goals as goal
+
+pub returns-in_default-clause-failed : goal.returns-in_default-clause-failed
+returns-in_default-clause-failed c =
+    let left = c.count_fault.ensures ∙ ap (λ m. after_fault m c.args.name.now) c.count_call-fails.ensures.counted in
+    rw left (after_fault-rose c.args.self.now c.args.name.now)
+
+pub returns-in_default-clause-later : goal.returns-in_default-clause-later
+returns-in_default-clause-later c q =
+    let left = c.count_fault.ensures ∙ ap (λ m. after_fault m c.args.name.now) c.count_call-fails.ensures.counted in
+    rw left (after_fault-later c.args.self.now c.args.name.now q)
+
+pub returns-in_default-clause-same : goal.returns-in_default-clause-same
+returns-in_default-clause-same c q =
+    let left = c.count_fault.ensures ∙ ap (λ m. after_fault m c.args.name.now) c.count_call-fails.ensures.counted in
+    rw left (after_fault-same c.args.self.now c.args.name.now q)

@@ -1,0 +1,5 @@
+pub mod Commands
+pub mod Answers
+pub mod Refusals
+pub mod Printed
+pub mod Statuses
