@@ -9,8 +9,8 @@ use core_unit::{FunctionInfo, SiteInfo, Unit};
 use eff_types::{Effects, Level};
 use std::alloc::{AllocError, Global};
 
-/// The warnings of a unit, each at a call in a marked function whose callee does not keep the function's level
-/// (Clang's manual, 'Function Effect Analysis'). The only error is want of memory.
+/// The warnings of a unit: one at each call in a marked function of a function whose level is below, and that has no body
+/// or forbids the level (Clang's manual, 'Function Effect Analysis'). The only error is want of memory.
 pub fn check(alloc: Global, unit: &Unit) -> Result<Verdicts, AllocError>
     ensures { IfOk result (AreWarnings unit.now) }
 {

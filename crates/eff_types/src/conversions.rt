@@ -29,7 +29,8 @@ pub enum Conversion {
 pub enum Mismatch {
     /// C has no such conversion, or has it by a cast only.
     Mismatch,
-    /// C has it, at least by a cast, and this subset leaves it out.
+    /// This subset leaves it out: any other pair with a function pointer, a pointer and a number, and two data pointers
+    /// that differ in effects inside alone. C has most of these, at least by a cast.
     LeftOut,
 }
 

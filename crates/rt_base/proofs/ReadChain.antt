@@ -14,9 +14,13 @@ Reads-more gives name first between now bytes buffer after start count reads pla
     rw e (More bytes (take count buffer) between now reads (rw place at gave) taken)
 
 -- one more read, whose bytes go past the limit
-pub Reads-past : {S : Type 0} (gives : S → List ℕ → ℕ → Option (List ℕ) → S → Type 0) (name : List ℕ) (first between now : S) (bytes buffer : List ℕ) (start count limit : ℕ) → Reads gives name first bytes between → start ≡ length bytes → gives between name start (Some (take count buffer)) now → 0 < count → count ≤ length buffer → limit < length bytes + count → ReadsPast gives name first limit now
+pub Reads-past : {S : Type 0} (gives : S → List ℕ → ℕ → Option (List ℕ) → S → Type 0) (name : List ℕ) (first between now : S) (bytes buffer : List ℕ) (start count limit : ℕ) → Reads gives name first bytes between → start ≡ length bytes → gives between name start (Some (take count buffer)) now → count ≤ length buffer → length bytes ≤ limit → limit < length bytes + count → ReadsPast gives name first limit now
 Reads-past gives name first between now bytes buffer start count limit reads place gave some within past = record {
-  bytes = bytes ++ take count buffer;
-  reads = Reads-more gives name first between now bytes buffer (bytes ++ take count buffer) start count reads place gave some within refl;
-  past = omega (arith, length-append bytes (take count buffer), length-take-le count buffer within);
+  bytes = bytes;
+  piece = take count buffer;
+  between = between;
+  reads = reads;
+  within = within;
+  last_read = rw place at gave;
+  past = omega (arith, length-take-le count buffer some);
 }

@@ -10,7 +10,9 @@ pub enum Status {
     Clean,
     /// a warning was given
     Warned,
-    /// the source isn't of the form that is built
+    /// a run reported a call; no command runs a file yet
+    Reported,
+    /// the spelling of the source has a fault, or the source isn't of the form that is built
     Refused,
     /// the words are no command
     Usage,
@@ -22,6 +24,12 @@ pub enum Status {
     NoMemory,
     /// the source has more than 1,048,576 bytes
     Limit,
+    /// a function that a run needs has no definition; no command runs a file yet
+    Unlinked,
+    /// a thread of a run trapped; no command runs a file yet
+    Trapped,
+    /// a thread of a run was stopped; no command runs a file yet
+    Stopped,
 }
 
 impl Status {
@@ -32,12 +40,16 @@ impl Status {
         match self {
             Status::Clean => 0,
             Status::Warned => 1,
+            Status::Reported => 2,
             Status::Refused => 3,
             Status::Usage => 4,
             Status::ReadFault => 5,
             Status::WriteFault => 6,
             Status::NoMemory => 7,
             Status::Limit => 8,
+            Status::Unlinked => 9,
+            Status::Trapped => 10,
+            Status::Stopped => 11,
         }
     }
 }

@@ -14,7 +14,7 @@ impl Gate for EmptyGate {
 }
 
 /// A command over one file, and what it must print.
-#[derive(Drop)]
+#[derive(Clone, Copy)]
 struct Row {
     words: &'static [&'static str],
     file: &'static [u8],
@@ -27,6 +27,70 @@ const DECLARED_CALLEE: &[u8] =
 
 const DECLARED_CALLEE_TEXT: &[u8] =
     b"a.c:2:39: warning: function with 'nonblocking' attribute must not call non-'nonblocking' function 'slow' [-Wfunction-effects]\n";
+
+/// Commands over `a.c`, with what they print and their status.
+static ROWS: [Row; 10] = [
+    Row {
+        words: &["check", "a.c"],
+        file: b"",
+        text: b"",
+        status: Status::Clean,
+    },
+    Row {
+        words: &["check", "a.c"],
+        file: DECLARED_CALLEE,
+        text: DECLARED_CALLEE_TEXT,
+        status: Status::Warned,
+    },
+    Row {
+        words: &["check", "a.c"],
+        file: b"int x;",
+        text: b"rtsan: not built\n",
+        status: Status::Refused,
+    },
+    Row {
+        words: &["check", "a.c"],
+        file: b"int a; /* x",
+        text: b"a.c:1:8: refused: text 2 open comment\n",
+        status: Status::Refused,
+    },
+    Row {
+        words: &["check", "a.c"],
+        file: b"char *s = \"ab",
+        text: b"a.c:1:11: refused: text 3 open string\n",
+        status: Status::Refused,
+    },
+    Row {
+        words: &["check", "no.c"],
+        file: b"",
+        text: b"rtsan: read fault: no.c\n",
+        status: Status::ReadFault,
+    },
+    Row {
+        words: &["check"],
+        file: b"",
+        text: b"usage: rtsan check FILE\n",
+        status: Status::Usage,
+    },
+    Row {
+        words: &["check", "-a.c"],
+        file: b"",
+        text: b"usage: rtsan check FILE\n",
+        status: Status::Usage,
+    },
+    Row {
+        words: &["check", ""],
+        file: b"",
+        text: b"usage: rtsan check FILE\n",
+        status: Status::Usage,
+    },
+    Row {
+        words: &["check", "a.c", "a.c"],
+        file: b"",
+        text: b"usage: rtsan check FILE\n",
+        status: Status::Usage,
+    },
+];
 
 /// The files that hold this one file, `a.c`.
 fn files_of(alloc: Global, bytes: &[u8]) -> Result<MemFiles, AllocError> {
@@ -53,69 +117,7 @@ fn served<R: Threads + Wait + Copy + Send + Sync>(
 
 #[test]
 fn each_row_has_its_text_and_status(rt: HostRuntime) -> Result<(), Fail> {
-    let rows = [
-        Row {
-            words: &["check", "a.c"],
-            file: b"",
-            text: b"",
-            status: Status::Clean,
-        },
-        Row {
-            words: &["check", "a.c"],
-            file: DECLARED_CALLEE,
-            text: DECLARED_CALLEE_TEXT,
-            status: Status::Warned,
-        },
-        Row {
-            words: &["check", "a.c"],
-            file: b"int x;",
-            text: b"rtsan: not built\n",
-            status: Status::Refused,
-        },
-        Row {
-            words: &["check", "a.c"],
-            file: b"int a; /* x",
-            text: b"a.c:1:8: refused: text 2 open comment\n",
-            status: Status::Refused,
-        },
-        Row {
-            words: &["check", "a.c"],
-            file: b"char *s = \"ab",
-            text: b"a.c:1:11: refused: text 3 open string\n",
-            status: Status::Refused,
-        },
-        Row {
-            words: &["check", "no.c"],
-            file: b"",
-            text: b"rtsan: read fault: no.c\n",
-            status: Status::ReadFault,
-        },
-        Row {
-            words: &["check"],
-            file: b"",
-            text: b"usage: rtsan check FILE\n",
-            status: Status::Usage,
-        },
-        Row {
-            words: &["check", "-a.c"],
-            file: b"",
-            text: b"usage: rtsan check FILE\n",
-            status: Status::Usage,
-        },
-        Row {
-            words: &["check", ""],
-            file: b"",
-            text: b"usage: rtsan check FILE\n",
-            status: Status::Usage,
-        },
-        Row {
-            words: &["check", "a.c", "a.c"],
-            file: b"",
-            text: b"usage: rtsan check FILE\n",
-            status: Status::Usage,
-        },
-    ];
-    for row in &rows {
+    for row in &ROWS {
         let mut out = MemSink::new(rt.alloc(), 200, 200, CallList::new(rt.alloc()))?;
         let status = served(rt, rt.alloc(), row.words, row.file, &mut out)?;
         assert_eq!(rt; status, row.status);

@@ -62,7 +62,6 @@ impl<T: Drop> From<AllocFailed<T>> for SupRefusal {
 /// `Bad` comes exactly where a line is bad, and names the first such line, counted from 1, and its
 /// fault: 1 unknown kind, 2 empty pattern, 3 past the thousandth line.
 pub fn read(alloc: Global, text: &[u8]) -> Result<Suppressions, SupRefusal>
-    requires { length text.now ≤ 1048576 }
     ensures accepted { OnOk result (NoFault (lines_of text.now)) }
     ensures suppressions { IfOk result (λ all. all ≡ suppressions_in (lines_of text.now)) }
     ensures refused { IfErr result (IsRefusal (lines_of text.now)) }

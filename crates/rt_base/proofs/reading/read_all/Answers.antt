@@ -17,7 +17,7 @@ loop-count-init g c = record {
 pub returns-then-count-limit-clause-past : goal.returns-then-count-limit-clause-past
 returns-then-count-limit-clause-past g c _ =
     Reads-past g.F.Files.read_gives c.args.name.now c.args.files.now c.loop-count.files c.read.new.self c.loop-count.bytes c.read.new.buf c.len-at.result c.in-Ok.count c.args.limit
-    c.loop-count.invariant.reads c.len-at.ensures c.in-Ok.ensures.gives (search rules) (search rules) (search rules)
+    c.loop-count.invariant.reads c.len-at.ensures c.in-Ok.ensures.gives (search rules) c.loop-count.invariant.within (search rules)
 
 pub loop-count-preserved : goal.loop-count-preserved
 loop-count-preserved g c =
