@@ -82,7 +82,7 @@ numbered next (call ∷ calls) = next ∷ numbered (next + 1) calls
 abbrev pub body_of : ℕ → Ending → Option Body
 body_of next Plain = None
 body_of next Marked = None
-body_of next (Defined calls) = Some (record { calls = numbered next calls })
+body_of next (Defined calls) = Some (record { calls = numbered next calls; returns = None })
 
 -- the function, whose first call site has the number `next`
 abbrev pub function_of : List ℕ → ℕ → Item → FunctionInfo

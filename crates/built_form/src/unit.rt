@@ -101,7 +101,10 @@ pub fn body(
         Ending::Plain | Ending::Marked => Ok(None),
         Ending::Defined(calls) => {
             let calls = call_sites(alloc, source, scope, function, calls.as_slice(), sites)?;
-            Ok(Some(Body { calls }))
+            Ok(Some(Body {
+                calls,
+                returns: None,
+            }))
         }
     }
 }

@@ -12,6 +12,8 @@ use std::marker::Model;
 pub struct Body {
     /// the numbers of the call sites of its statements, in order; sites count from 1
     pub calls: NumberList,
+    /// the number that its last statement returns; none where the function is void
+    pub returns: Option<u32>,
 }
 
 /// A function of the unit.

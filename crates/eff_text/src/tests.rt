@@ -39,6 +39,7 @@ fn functions(alloc: Global) -> Result<FunctionList, AllocError>
     let mut marked = declared(alloc, "f", 22, Level::NonBlocking)?;
     marked.body = Some(Body {
         calls: NumberList::new(alloc),
+        returns: None,
     });
     functions.push(marked)?;
     Ok(functions)

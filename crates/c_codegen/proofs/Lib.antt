@@ -1,0 +1,4 @@
+pub mod Follows
+pub mod Emitted
+pub mod Checks
+pub mod Refusals
