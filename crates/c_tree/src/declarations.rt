@@ -8,7 +8,7 @@ use sqlite_items::Items;
 #[derive(Debug, Drop)]
 pub enum Init {
     Value(Expr),
-    /// The place of the `{`, the initializers in it, and whether a comma stands before the `}`.
+    /// The place of the `{`, and the initializers in it, one or more.
     List(u32, Items<Init>),
 }
 
