@@ -11,4 +11,5 @@ pub mod Pass
 pub mod Theorem
 pub mod Walk
 pub mod Conditions
+pub mod Checked
 pub mod SumsFit

@@ -1,0 +1,10 @@
+pub mod Lexemes
+pub mod Rules
+pub mod Trees
+pub mod Expressions
+pub mod Specifiers
+pub mod Declarators
+pub mod Statements
+pub mod Grammar
+pub mod Refusals
+pub mod Worked
