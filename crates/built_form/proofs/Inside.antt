@@ -1,5 +1,5 @@
 -- The calls of a file stand within its bytes.
-use Rattle.std.proofs.Common.{◌≡◌, ℕ, ◌≤◌, List, [], ◌∷◌, ◌++◌, map, length, All, arith, Result, Ok, Err, IfOk, subst, sym}
+use Rattle.std.proofs.Common.{◌≡◌, ℕ, ◌≤◌, List, [], ◌∷◌, map, length, All, arith, Result, Ok, Err, IfOk, subst, sym}
 use Rattle.std.proofs.lemmas.List.Elements.{All-map, All-append, All-head, All-tail}
 use Rattle.c_text.specs.Spelling.{IsWithin}
 use Rattle.c_text.specs.declared.Token.{Token}
@@ -18,7 +18,7 @@ pub sites_inside : (source : List ℕ) (known : List (List ℕ)) (items : List I
 sites_inside source known [] within = λ k d less. absurd (omega arith)
 sites_inside source known (item ∷ items) within =
     All-append (λ (site : SiteInfo). site.place ≤ length source) (item_sites source known item) (sites_of source (scope_of source known item) items)
-    (calls_inside source (scope_of source known item) (length known) (calls_of item.ending) (All-head (IsItemWithin source) item items within).1)
+    (calls_inside source (scope_of source known item) (length known) (calls_of item.kind) (All-head (IsItemWithin source) item items within).1)
     (sites_inside source (scope_of source known item) items (All-tail (IsItemWithin source) item items within))
 
 -- where there is a unit of the items, its calls stand within the source

@@ -9,7 +9,7 @@ use Rattle.core_unit.specs.declared.units.SiteInfo.{SiteInfo}
 use Rattle.core_unit.specs.Units.{IsUnit}
 use Rattle.built_form.specs.declared.item.Item.{Item}
 use Rattle.built_form.specs.Form.{Spells, lexemes_of, spelled_items}
-use Rattle.built_form.specs.Built.{IsBuilt, IsItemWithin, calls_of, number_of, scope_of, site_of, sites_of, functions_of}
+use Rattle.built_form.specs.Built.{IsItemWithin, calls_of, number_of, scope_of, site_of, sites_of, functions_of}
 use Rattle.built_form.proofs.Placed.{AreFound, found, names_in-items, names_of, all_from, all_within, sites_few, sites_increase, length-app}
 
 number_below : (scope : List (List ℕ)) (text : List ℕ) (bound : ℕ) → length scope ≤ bound → IfSome (number_of scope text) (λ i. i < bound)
@@ -36,19 +36,19 @@ sites_below : (source : List ℕ) (known : List (List ℕ)) (items : List Item) 
 sites_below source known [] bound le = tt
 sites_below source known (item ∷ items) bound le =
     let more : length (scope_of source known item) ≡ length known + 1 = omega (arith, length-app known (text_of source item.name ∷ [])) in
-    calls_below source (scope_of source known item) (length known) bound (calls_of item.ending)
+    calls_below source (scope_of source known item) (length known) bound (calls_of item.kind)
     (sites_of source (scope_of source known item) items) (omega arith) (omega (arith, more))
     (sites_below source (scope_of source known item) items bound (omega (arith, more)))
 
 length-functions_of : (source : List ℕ) (next : ℕ) (items : List Item) → length (functions_of source next items) ≡ length items
 length-functions_of source next [] = refl
-length-functions_of source next (item ∷ items) = ap suc (length-functions_of source (next + length (calls_of item.ending)) items)
+length-functions_of source next (item ∷ items) = ap suc (length-functions_of source (next + length (calls_of item.kind)) items)
 
 -- what the reader of the items hands on
 pub record Suits (source : List ℕ) (items : List Item) : Type 0 where
   pub within : All (IsItemWithin source) items
   pub room : length (sites_of source [] items) ≤ 1048576
-  pub unit : IsBuilt source items → IsUnit (functions_of source 1 items) (sites_of source [] items)
+  pub unit : length items ≤ 4096 → IsUnit (functions_of source 1 items) (sites_of source [] items)
 
 pub suits : (source : List ℕ) (tokens : List Token) (items : List Item) → All (IsWithin source) tokens → length tokens ≤ 1048576
     → IsInOrder tokens → Spells (spelled_items items) (lexemes_of source tokens) [] → Suits source items
@@ -60,8 +60,8 @@ suits source tokens items within few order spelled =
     record {
       within = all_within source items f.within;
       room = room;
-      unit = λ built. record {
-        few = omega (arith, length-functions_of source 1 items, built.0);
+      unit = λ few_items. record {
+        few = omega (arith, length-functions_of source 1 items);
         numbered = omega (arith, room);
         known = subst (λ n. All (IsBelow n) (sites_of source [] items)) (sym (length-functions_of source 1 items))
             (all_from (IsBelow (length items)) (sites_of source [] items) (sites_below source [] items (length items) (omega arith)));

@@ -1,4 +1,5 @@
 pub mod Parts
+pub mod Finding
 pub mod Progress
 pub mod Items
 pub mod Names
@@ -6,3 +7,4 @@ pub mod Sites
 pub mod Placed
 pub mod Known
 pub mod Inside
+pub mod Callees

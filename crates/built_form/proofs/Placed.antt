@@ -1,27 +1,29 @@
 -- Where the names of a file stand: within the source, one after the other.
-use Rattle.std.proofs.Common.{◌≡◌, ℕ, zero, suc, ◌+◌, ◌<◌, ◌≤◌, List, [], ◌∷◌, ◌++◌, map, length, refl, sym, subst, ap, ◌∙◌, arith, All, get_or}
+use Rattle.std.proofs.Common.{◌≡◌, ℕ, zero, suc, ◌+◌, ◌<◌, ◌≤◌, List, [], ◌∷◌, ◌++◌, map, length, refl, sym, subst, ap, ◌∙◌, arith, All, Option, Some, None, get_or}
 use Rattle.std.specs.List.{AllByRecursion, flat_map}
 use Rattle.std.specs.List.Sorted.{IsStrictlyIncreasing}
 use Rattle.c_text.specs.Spelling.{IsWithin, IsInOrderFrom, text_of}
 use Rattle.c_text.specs.declared.Token.{Token}
 use Rattle.core_unit.specs.declared.units.SiteInfo.{SiteInfo}
 use Rattle.built_form.specs.declared.item.Item.{Item}
-use Rattle.built_form.specs.declared.item.Ending.{Ending}
-use Rattle.built_form.specs.declared.item.Ending.TheVariants.{Plain, Marked, Defined}
-use Rattle.built_form.specs.Form.{Lexeme, Part, IsPart, Spells, lexemes_of, spelled_body, spelled_ending, spelled_item, spelled_items}
-use Rattle.built_form.specs.Form.Part.{Sign, Word, Ident}
-use Rattle.built_form.specs.Built.{IsItemWithin, calls_of, scope_of, site_of, item_sites, sites_of}
+use Rattle.built_form.specs.declared.item.Kind.{Kind}
+use Rattle.built_form.specs.declared.item.Kind.TheVariants.{Void, Main}
+use Rattle.built_form.specs.declared.item.Mark.{Mark}
+use Rattle.built_form.specs.Form.{Lexeme, Part, IsPart, Spells, lexemes_of, spelled_attribute, spelled_block, spelled_body, spelled_kind, spelled_item, spelled_items, brace, return_zero}
+use Rattle.built_form.specs.Form.Part.{Sign, Keyword, Word, Ident}
+use Rattle.built_form.specs.Built.{IsItemWithin, calls_in, calls_of, scope_of, site_of, item_sites, sites_of}
 
 -- the names among the parts
 pub names_in : List Part → List Token
 names_in [] = []
 names_in (Sign text ∷ parts) = names_in parts
+names_in (Keyword text ∷ parts) = names_in parts
 names_in (Word text ∷ parts) = names_in parts
 names_in (Ident name ∷ parts) = name ∷ names_in parts
 
 -- the names that the items are made of
 abbrev pub item_names : Item → List Token
-item_names item = item.name ∷ calls_of item.ending
+item_names item = item.name ∷ calls_of item.kind
 
 abbrev pub names_of : List Item → List Token
 names_of items = flat_map item_names items
@@ -30,26 +32,38 @@ names_in-append : (ps qs : List Part) → names_in (ps ++ qs) ≡ names_in ps ++
 unfolding names_in
 names_in-append [] qs = refl
 names_in-append (Sign text ∷ ps) qs = names_in-append ps qs
+names_in-append (Keyword text ∷ ps) qs = names_in-append ps qs
 names_in-append (Word text ∷ ps) qs = names_in-append ps qs
 names_in-append (Ident name ∷ ps) qs = ap (λ l. name ∷ l) (names_in-append ps qs)
 
-names_in-body : (calls : List Token) → names_in (spelled_body calls) ≡ calls
+names_in-block : (closing : List Part) (calls : List Token) → names_in closing ≡ [] → names_in (spelled_block closing calls) ≡ calls
 unfolding names_in
-names_in-body [] = refl
-names_in-body (call ∷ calls) = ap (λ l. call ∷ l) (names_in-body calls)
+names_in-block closing [] e = e
+names_in-block closing (call ∷ calls) e = ap (λ l. call ∷ l) (names_in-block closing calls e)
 
-names_in-ending : (ending : Ending) → names_in (spelled_ending ending) ≡ calls_of ending
+names_in-body : (calls : Option (List Token)) → names_in (spelled_body calls) ≡ calls_in calls
 unfolding names_in
-names_in-ending Plain = refl
-names_in-ending Marked = refl
-names_in-ending (Defined calls) = names_in-body calls
+names_in-body None = refl
+names_in-body (Some calls) = names_in-block brace calls refl
+
+names_in-attribute : (mark : Option Mark) → names_in (spelled_attribute mark) ≡ []
+unfolding names_in
+names_in-attribute None = refl
+names_in-attribute (Some mark) = refl
+
+names_in-kind : (kind : Kind) → names_in (spelled_kind kind) ≡ calls_of kind
+unfolding names_in
+names_in-kind (Void ending) =
+    names_in-append (spelled_attribute ending.mark) (spelled_body ending.calls)
+    ∙ (ap (λ l. l ++ names_in (spelled_body ending.calls)) (names_in-attribute ending.mark) ∙ names_in-body ending.calls)
+names_in-kind (Main calls) = names_in-block return_zero calls refl
 
 pub names_in-items : (items : List Item) → names_in (spelled_items items) ≡ names_of items
 unfolding names_in
 names_in-items [] = refl
 names_in-items (item ∷ items) =
     names_in-append (spelled_item item) (spelled_items items)
-    ∙ (ap (λ l. (item.name ∷ l) ++ names_in (spelled_items items)) (names_in-ending item.ending)
+    ∙ (ap (λ l. (item.name ∷ l) ++ names_in (spelled_items items)) (names_in-kind item.kind)
     ∙ ap (λ l. item_names item ++ l) (names_in-items items))
 
 -- the tokens stand from this place on, each after the start of the one before
@@ -80,6 +94,12 @@ found_first : (source : List ℕ) (low : ℕ) (t : Token) (count : ℕ) (names :
     → AreFound source (t.start + 1) count names → AreFound source low (count + 1) (names_in (p ∷ ps))
 unfolding names_in Rising
 found_first source low t count names first (Sign text) ps e fits le within is rest =
+    subst (λ ns. AreFound source low (count + 1) ns) is (record {
+      rising = rising_lower low (t.start + 1) names (omega arith) rest.rising;
+      within = rest.within;
+      few = omega (arith, rest.few);
+    })
+found_first source low t count names first (Keyword text) ps e fits le within is rest =
     subst (λ ns. AreFound source low (count + 1) ns) is (record {
       rising = rising_lower low (t.start + 1) names (omega arith) rest.rising;
       within = rest.within;
@@ -136,8 +156,8 @@ items_within : (source : List ℕ) (items : List Item) → AllByRecursion (IsWit
     → AllByRecursion (IsItemWithin source) items
 items_within source [] h = tt
 items_within source (item ∷ items) h =
-    let parts = all_front (IsWithin source) (calls_of item.ending) (names_of items) h.1 in
-    ((h.0, all_from (IsWithin source) (calls_of item.ending) parts.0), items_within source items parts.1)
+    let parts = all_front (IsWithin source) (calls_of item.kind) (names_of items) h.1 in
+    ((h.0, all_from (IsWithin source) (calls_of item.kind) parts.0), items_within source items parts.1)
 
 pub all_within : (source : List ℕ) (items : List Item) → AllByRecursion (IsWithin source) (names_of items)
     → All (IsItemWithin source) items
@@ -157,8 +177,8 @@ sites_few source known (item ∷ items) =
     omega (
       arith,
       length-app (item_sites source known item) (sites_of source (scope_of source known item) items),
-      length-map' (site_of source (scope_of source known item) (length known)) (calls_of item.ending),
-      length-app (calls_of item.ending) (names_of items),
+      length-map' (site_of source (scope_of source known item) (length known)) (calls_of item.kind),
+      length-app (calls_of item.kind) (names_of items),
       sites_few source (scope_of source known item) items,
     )
 
@@ -183,9 +203,9 @@ climbing_sites : (source : List ℕ) (known : List (List ℕ)) (items : List Ite
 unfolding Rising Climbing
 climbing_sites source known [] low h = tt
 climbing_sites source known (item ∷ items) low h =
-    climbing_calls source (scope_of source known item) (length known) (calls_of item.ending) (names_of items)
+    climbing_calls source (scope_of source known item) (length known) (calls_of item.kind) (names_of items)
     (sites_of source (scope_of source known item) items) low
-    (rising_lower low (item.name.start + 1) (calls_of item.ending ++ names_of items) (omega (arith, h.0)) h.1)
+    (rising_lower low (item.name.start + 1) (calls_of item.kind ++ names_of items) (omega (arith, h.0)) h.1)
     (climbing_sites source (scope_of source known item) items)
 
 increasing : (low : ℕ) (xs : List ℕ) → Climbing low xs → (k j : ℕ) → j ≡ k + 1 → j < length xs → get_or xs k 0 < get_or xs j 0

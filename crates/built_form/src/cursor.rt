@@ -4,9 +4,11 @@ ghost use Rattle.std.specs.Prelude.{◌≡◌, List, [], ◌∷◌, IfOk, OnOk, 
 ghost use Rattle.std.specs.Bool.{OnTrue, OnFalse};
 ghost use Rattle.c_text.specs.Spelling.{IsWithin, text_of};
 ghost use Rattle.c_text.specs.declared.Token.{Token};
-ghost use Rattle.built_form.specs.Form.{Lexeme, lexemes_of, IsFirst, Begins};
-ghost use Rattle.built_form.specs.Form.Part.{Sign, Word, Ident};
+ghost use Rattle.built_form.specs.Form.{Lexeme, lexemes_of, IsFirst, Begins, Spells, spelled_named};
+ghost use Rattle.built_form.specs.Form.Part.{Ident};
+ghost use Rattle.built_form.specs.Reading.{Finds, FindsNone, part_of, parts_of};
 
+use crate::fixed::Fixed;
 use crate::refusal::FormRefusal;
 use c_text::{Token, TokenKind};
 use std::marker::Model;
@@ -80,6 +82,64 @@ impl<'a> Cursor<'a> {
         Some((token, text_of(self.source, token)))
     }
 
+    /// Whether a part of fixed text comes next.
+    pub fn sees(&self, part: Fixed) -> bool
+        ensures yes { OnTrue result ((rest : List Lexeme) × Begins (part_of part.entry) self.now rest) }
+        ensures no { OnFalse result ((rest : List Lexeme) → Begins (part_of part.entry) self.now rest → ⊥) }
+    {
+        match self.first() {
+            Some((token, text)) => part.fits(token, text),
+            None => false,
+        }
+    }
+
+    /// Reads a part of fixed text where it comes next, and says whether it did.
+    pub fn take(&mut self, part: Fixed) -> bool
+        ensures read { OnTrue result (Begins (part_of part.entry) self.old self.new) }
+        ensures none { OnFalse result ((rest : List Lexeme) → Begins (part_of part.entry) self.old rest → ⊥) }
+        ensures same { OnFalse result (self.new ≡ self.old) }
+    {
+        if !self.sees(part) {
+            return false;
+        }
+        self.next();
+        true
+    }
+
+    /// Reads a part of fixed text.
+    pub fn part(&mut self, part: Fixed) -> Result<(), FormRefusal>
+        ensures read { OnOk result (Begins (part_of part.entry) self.old self.new) }
+        ensures none { OnErr result ((rest : List Lexeme) → Begins (part_of part.entry) self.old rest → ⊥) }
+    {
+        if self.take(part) {
+            Ok(())
+        } else {
+            Err(FormRefusal::NotBuilt)
+        }
+    }
+
+    /// Reads parts of fixed text, one after the other.
+    pub fn parts(&mut self, parts: &[Fixed]) -> Result<(), FormRefusal>
+        ensures read { OnOk result (Spells (parts_of parts.now) self.old self.new) }
+        ensures none { OnErr result ((rest : List Lexeme) → Spells (parts_of parts.now) self.old rest → ⊥) }
+    {
+        'parts: for part in parts {
+            self.part(*part)?;
+        }
+        Ok(())
+    }
+
+    /// Whether a name comes next.
+    pub fn sees_name(&self) -> bool
+        ensures yes { OnTrue result ((name : Token) × (rest : List Lexeme) × Begins (Ident name) self.now rest) }
+        ensures no { OnFalse result ((name : Token) (rest : List Lexeme) → Begins (Ident name) self.now rest → ⊥) }
+    {
+        match self.first() {
+            Some((token, _)) => token.kind == TokenKind::Name,
+            None => false,
+        }
+    }
+
     /// Reads a name.
     pub fn name(&mut self) -> Result<Token, FormRefusal>
         ensures read { IfOk result (λ name. Begins (Ident name) self.old self.new) }
@@ -91,50 +151,13 @@ impl<'a> Cursor<'a> {
         }
     }
 
-    /// Reads a punctuator of this text.
-    pub fn sign(&mut self, text: &str) -> Result<(), FormRefusal>
-        ensures read { OnOk result (Begins (Sign text.now) self.old self.new) }
-        ensures none { OnErr result ((rest : List Lexeme) → Begins (Sign text.now) self.old rest → ⊥) }
+    /// Reads a name and parts of fixed text behind it, and gives the name.
+    pub fn named(&mut self, parts: &[Fixed]) -> Result<Token, FormRefusal>
+        ensures read { IfOk result (λ name. Finds (spelled_named (parts_of parts.now)) self.old name self.new) }
+        ensures none { OnErr result (FindsNone (spelled_named (parts_of parts.now)) self.old) }
     {
-        match self.next() {
-            Some((token, found))
-                if token.kind == TokenKind::Punctuator && found == text.as_bytes() => Ok(()),
-            _ => Err(FormRefusal::NotBuilt),
-        }
-    }
-
-    /// Reads a word of this text.
-    pub fn word(&mut self, text: &str) -> Result<(), FormRefusal>
-        ensures read { OnOk result (Begins (Word text.now) self.old self.new) }
-        ensures none { OnErr result ((rest : List Lexeme) → Begins (Word text.now) self.old rest → ⊥) }
-    {
-        match self.next() {
-            Some((_, found)) if found == text.as_bytes() => Ok(()),
-            _ => Err(FormRefusal::NotBuilt),
-        }
-    }
-
-    /// Whether a punctuator of this text comes next.
-    pub fn sees(&self, text: &str) -> bool
-        ensures yes { OnTrue result ((rest : List Lexeme) × Begins (Sign text.now) self.now rest) }
-        ensures no { OnFalse result ((rest : List Lexeme) → Begins (Sign text.now) self.now rest → ⊥) }
-    {
-        match self.first() {
-            Some((token, found)) => token.kind == TokenKind::Punctuator && found == text.as_bytes(),
-            None => false,
-        }
-    }
-
-    /// Reads a punctuator of this text where it comes next, and says whether it did.
-    pub fn take(&mut self, text: &str) -> bool
-        ensures read { OnTrue result (Begins (Sign text.now) self.old self.new) }
-        ensures none { OnFalse result ((rest : List Lexeme) → Begins (Sign text.now) self.old rest → ⊥) }
-        ensures same { OnFalse result (self.new ≡ self.old) }
-    {
-        if !self.sees(text) {
-            return false;
-        }
-        self.next();
-        true
+        let name = self.name()?;
+        self.parts(parts)?;
+        Ok(name)
     }
 }

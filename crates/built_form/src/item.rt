@@ -2,15 +2,31 @@
 
 use c_text::{Token, TokenList};
 
-/// What stands after the parameters of a declared function.
+/// What the attribute of a function says.
+#[derive(Clone, Copy)]
+pub enum Mark {
+    /// `[[clang::nonblocking]]`
+    Nonblocking,
+    /// `[[clang::blocking]]`
+    Blocking,
+}
+
+/// What stands behind the parameters of a function that returns nothing.
 #[derive(Drop)]
-pub enum Ending {
-    /// Nothing: it is only declared, and its effects are not marked.
-    Plain,
-    /// `[[clang::nonblocking]]`: it is only declared.
-    Marked,
-    /// `[[clang::nonblocking]]` and a body: the names of the functions that it calls, in order.
-    Defined(TokenList),
+pub struct Ending {
+    /// what its attribute says; none where it has no attribute
+    pub mark: Option<Mark>,
+    /// the names of the functions that its body calls, in order; none where it is only declared
+    pub calls: Option<TokenList>,
+}
+
+/// What a declared function is.
+#[derive(Drop)]
+pub enum Kind {
+    /// A function that returns nothing.
+    Void(Ending),
+    /// `main`, whose body calls the functions of these names, in order, and returns 0.
+    Main(TokenList),
 }
 
 /// A declared function.
@@ -18,5 +34,6 @@ pub enum Ending {
 pub struct Item {
     /// the token of its name
     pub name: Token,
-    pub ending: Ending,
+    /// what kind of function it is, with what stands behind its parameters
+    pub kind: Kind,
 }

@@ -10,7 +10,7 @@ use indexmap::IndexSet;
 use std::alloc::Global;
 use std::marker::Model;
 
-/// The names that no file declares: those of the library, and `main`.
+/// The names that no function but `main` has: those of the library, and `main` itself.
 const RESERVED: [&str; 21] = [
     "malloc",
     "calloc",
@@ -42,7 +42,7 @@ fn is_among(texts: &[&str], name: &[u8]) -> bool
     texts.iter().any(|text| name == text.as_bytes())
 }
 
-/// Whether no file declares this name.
+/// Whether no function but `main` has this name.
 pub fn is_reserved(name: &[u8]) -> bool
     ensures { result ≡ is_reserved name.now }
 {

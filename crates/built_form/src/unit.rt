@@ -1,35 +1,42 @@
 //! The unit that the items of a file make.
 
-ghost use Rattle.std.specs.Prelude.{◌≡◌, ◌<◌, ◌≤◌, ◌+◌, List, [], ◌∷◌, ◌++◌, length, map, IfOk, OnOk, All};
+ghost use Rattle.std.specs.Prelude.{◌≡◌, ◌<◌, ◌≤◌, ◌+◌, List, [], ◌∷◌, ◌++◌, length, map, IfOk, OnOk, All, IsTrue, ◌↔◌};
 ghost use Rattle.std.specs.Str.{IsUtf8};
 ghost use Rattle.c_text.specs.Spelling.{IsWithin, text_of};
 ghost use Rattle.core_unit.specs.Units.{IsUnit};
-ghost use Rattle.built_form.specs.Built.{AreDeclared, IsItemBuilt, IsBuilt, IsItemWithin, scope_of, calls_of, effects_of, body_of, function_of, site_of, item_sites, functions_of, sites_of, unit_of, numbered};
+ghost use Rattle.built_form.specs.Built.{AreDeclared, IsNameOf, IsItemBuilt, IsBuilt, IsItemWithin, scope_of, calls_of, effects_of, body_of, function_of, site_of, item_sites, functions_of, sites_of, unit_of, numbered};
 
+use crate::calls::are_calls_built;
 use crate::cursor::text_of;
-use crate::item::{Ending, Item};
+use crate::item::{Item, Kind};
+use crate::marks::{PLAIN, marked_effects};
 use crate::refusal::FormRefusal;
 use crate::scope::{Scope, is_reserved};
 use c_text::Token;
 use core_unit::{Body, FunctionInfo, FunctionList, Name, NumberList, SiteInfo, SiteList, Unit};
-use eff_types::{Effects, Level};
+use eff_types::Effects;
 use std::alloc::Global;
 
 /// The most functions that a file declares.
 const MAX_FUNCTIONS: usize = 4096;
 
 /// The effects of a function.
-pub fn effects(ending: &Ending) -> Effects
-    ensures { result ≡ effects_of ending.now }
+pub fn effects(kind: &Kind) -> Effects
+    ensures { result ≡ effects_of kind.now }
 {
-    let level = match ending {
-        Ending::Plain => Level::Plain,
-        Ending::Marked | Ending::Defined(_) => Level::NonBlocking,
-    };
-    Effects {
-        level,
-        no_block_inference: false,
-        no_alloc_inference: false,
+    match kind {
+        Kind::Void(ending) => marked_effects(ending.mark),
+        Kind::Main(_) => PLAIN,
+    }
+}
+
+/// Whether a function of this kind may have this name.
+pub fn is_name_of(text: &[u8], kind: &Kind) -> bool
+    ensures { IsTrue result ↔ IsNameOf text.now kind.now }
+{
+    match kind {
+        Kind::Void(_) => !is_reserved(text),
+        Kind::Main(_) => text == b"main".as_slice(),
     }
 }
 
@@ -86,27 +93,26 @@ pub fn body(
     source: &[u8],
     scope: &Scope,
     function: u32,
-    ending: &Ending,
+    kind: &Kind,
     sites: &mut SiteList,
 ) -> Result<Option<Body>, FormRefusal>
-    requires within { All (IsWithin source.now) (calls_of ending.now) }
+    requires within { All (IsWithin source.now) (calls_of kind.now) }
     requires few { length scope.now ≤ 4096 }
-    requires room { length sites.old + length (calls_of ending.now) ≤ 1048576 }
-    ensures sites { OnOk result (sites.new ≡ sites.old ++ map (site_of source.now scope.now function) (calls_of ending.now)) }
-    ensures body { IfOk result (λ body. body ≡ body_of (length sites.old + 1) ending.now) }
-    ensures declared { OnOk result (AreDeclared source.now scope.now (calls_of ending.now)) }
-    ensures none { result ≡ Err FormRefusal.NotBuilt → AreDeclared source.now scope.now (calls_of ending.now) → ⊥ }
+    requires room { length sites.old + length (calls_of kind.now) ≤ 1048576 }
+    ensures sites { OnOk result (sites.new ≡ sites.old ++ map (site_of source.now scope.now function) (calls_of kind.now)) }
+    ensures body { IfOk result (λ body. body ≡ body_of (length sites.old + 1) kind.now) }
+    ensures declared { OnOk result (AreDeclared source.now scope.now (calls_of kind.now)) }
+    ensures none { result ≡ Err FormRefusal.NotBuilt → AreDeclared source.now scope.now (calls_of kind.now) → ⊥ }
 {
-    match ending {
-        Ending::Plain | Ending::Marked => Ok(None),
-        Ending::Defined(calls) => {
-            let calls = call_sites(alloc, source, scope, function, calls.as_slice(), sites)?;
-            Ok(Some(Body {
-                calls,
-                returns: None,
-            }))
-        }
-    }
+    let (calls, returns) = match kind {
+        Kind::Void(ending) => (ending.calls.as_ref(), None),
+        Kind::Main(calls) => (Some(calls), Some(0)),
+    };
+    let Some(calls) = calls else {
+        return Ok(None);
+    };
+    let calls = call_sites(alloc, source, scope, function, calls.as_slice(), sites)?;
+    Ok(Some(Body { calls, returns }))
 }
 
 /// The part of a unit that the first items of a file make.
@@ -135,7 +141,7 @@ impl<'a> Builder<'a> {
     pub fn add(&mut self, alloc: Global, source: &'a [u8], item: &Item) -> Result<(), FormRefusal>
         requires within { IsItemWithin source.now item.now }
         requires few { length self.old.scope < 4096 }
-        requires room { length self.old.sites + length (calls_of item.now.ending) ≤ 1048576 }
+        requires room { length self.old.sites + length (calls_of item.now.kind) ≤ 1048576 }
         ensures built { OnOk result (IsItemBuilt source.now self.old.scope item.now) }
         ensures scope { OnOk result (self.new.scope ≡ scope_of source.now self.old.scope item.now) }
         ensures functions { OnOk result (self.new.functions ≡ self.old.functions ++ function_of source.now (length self.old.sites + 1) item.now ∷ []) }
@@ -143,7 +149,7 @@ impl<'a> Builder<'a> {
         ensures none { result ≡ Err FormRefusal.NotBuilt → IsItemBuilt source.now self.old.scope item.now → ⊥ }
     {
         let text = text_of(source, item.name);
-        if is_reserved(text) {
+        if !is_name_of(text, &item.kind) {
             return Err(FormRefusal::NotBuilt);
         }
         let function = self.scope.len() as u32;
@@ -153,13 +159,13 @@ impl<'a> Builder<'a> {
             source,
             &self.scope,
             function,
-            &item.ending,
+            &item.kind,
             &mut self.sites,
         )?;
         let name = name(alloc, text)?;
         let function = FunctionInfo {
             name,
-            effects: effects(&item.ending),
+            effects: effects(&item.kind),
             place: item.name.start,
             body,
         };
@@ -173,7 +179,7 @@ impl<'a> Builder<'a> {
 pub fn unit(alloc: Global, source: &[u8], items: &[Item]) -> Result<Unit, FormRefusal>
     requires within { All (IsItemWithin source.now) items.now }
     requires room { length (sites_of source.now [] items.now) ≤ 1048576 }
-    requires unit { IsBuilt source.now items.now → IsUnit (functions_of source.now 1 items.now) (sites_of source.now [] items.now) }
+    requires unit { length items.now ≤ 4096 → IsUnit (functions_of source.now 1 items.now) (sites_of source.now [] items.now) }
     ensures built { OnOk result (IsBuilt source.now items.now) }
     ensures means { IfOk result (λ unit. unit ≡ unit_of source.now items.now) }
     ensures none { result ≡ Err FormRefusal.NotBuilt → IsBuilt source.now items.now → ⊥ }
@@ -185,5 +191,10 @@ pub fn unit(alloc: Global, source: &[u8], items: &[Item]) -> Result<Unit, FormRe
     'items: for item in items {
         builder.add(alloc, source, item)?;
     }
-    Ok(Unit::new(builder.functions, builder.sites))
+    let unit = Unit::new(builder.functions, builder.sites);
+    if are_calls_built(&unit) {
+        Ok(unit)
+    } else {
+        Err(FormRefusal::NotBuilt)
+    }
 }

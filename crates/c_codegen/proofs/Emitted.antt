@@ -1,5 +1,5 @@
 -- Where the instructions of a unit stand, each function's tasks lie at its entry.
-use Rattle.std.proofs.Common.{◌≡◌, ℕ, zero, suc, ◌+◌, ◌<◌, ◌≤◌, ◌⊎◌, inl, inr, List, [], ◌∷◌, ◌++◌, Option, Some, None, refl, sym, ap, ◌∙◌, subst, arith, length, Bool, true, false, length-append, append_assoc, get_or, take}
+use Rattle.std.proofs.Common.{◌≡◌, ℕ, zero, suc, ◌+◌, ◌<◌, ◌≤◌, inl, inr, List, [], ◌∷◌, ◌++◌, Option, Some, None, refl, sym, ap, ◌∙◌, subst, arith, length, Bool, true, false, length-append, append_assoc, get_or, take}
 use Rattle.std.specs.Prelude.{slice_get}
 use Rattle.std.proofs.Math.Seq.{get_or-append_seam}
 use Rattle.std.proofs.Math.ListN.{get_or-append}
@@ -14,7 +14,7 @@ use Rattle.mcode.specs.Machine.{Program, placed, entry_of}
 use Rattle.src_model.specs.Source.{Task, Call, Check, Begin, Meet, Give, Leaving, Fail, Deliver, Tell, Halting, Finished, callee_at, named, calls, return_of, meets, body_tasks, info_tasks, tasks_of}
 use Rattle.src_model.specs.Follows.{Behaves}
 use Rattle.c_codegen.specs.Instructions.{task_code, tasks_code, maybe_code, function_code, unit_code, place_of, unit_entries}
-use Rattle.c_codegen.proofs.Follows.{Lies, Fits, Compiled, behaves}
+use Rattle.c_codegen.proofs.Follows.{Lies, Fits, behaves}
 
 -- these instructions stand in the code at this place
 abbrev HasAt : List Instruction → ℕ → List Instruction → Type 0

@@ -1,13 +1,12 @@
 -- Code in which each function's tasks lie at its entry follows the source thread, event by event.
-use Rattle.std.proofs.Common.{◌≡◌, ℕ, zero, suc, ◌+◌, ◌<◌, ◌≤◌, ◌==◌, Bool, true, false, List, [], ◌∷◌, Option, Some, None, Result, Ok, Err, refl, sym, ap, ◌∙◌, subst, arith, length, if◌then◌else◌}
+use Rattle.std.proofs.Common.{◌≡◌, ℕ, zero, suc, ◌+◌, ◌<◌, ◌==◌, Bool, true, false, List, [], ◌∷◌, Option, Some, None, Err, refl, sym, ap, ◌∙◌, subst, arith, length, if◌then◌else◌}
 use Rattle.std.specs.Prelude.{slice_get, nat_lt}
 use Rattle.core_unit.specs.Units.{UnitParts}
 use Rattle.mcode.specs.declared.code.Instruction.{Instruction}
 use Rattle.mcode.specs.declared.code.Instruction.TheVariants.{CheckHalt, EnterFunction, ReachFunction, SetValue, LeaveFunction, FailWith}
 use Rattle.mcode.specs.declared.events.TrapKind.{TrapKind}
 use Rattle.mcode.specs.declared.events.TrapKind.TheVariants.{NullCall, StackOverflow}
-use Rattle.mcode.specs.declared.events.Ask.{Ask}
-use Rattle.mcode.specs.declared.events.Ask.TheVariants.{Load, Store, Enter, Leave, Reach, Trap}
+use Rattle.mcode.specs.declared.events.Ask.TheVariants.{Reach}
 use Rattle.mcode.specs.declared.events.Finish.{Finish}
 use Rattle.mcode.specs.declared.events.Finish.TheVariants.{Returned, Exited, Trapped, Halted}
 use Rattle.mcode.specs.declared.frames.Frame.{Frame}
@@ -18,7 +17,7 @@ use Rattle.mcode.specs.Steps.{Step, Quiet, Makes, Ends, is_quiet, settle, unless
 use Rattle.mcode.specs.Machine as machine
 use Rattle.mcode.specs.Machine.{Program, Machine, move, does, park, entry_of, entry_or_trap, left_by, machine_next, machine_after, started, cut_short}
 use Rattle.mcode.proofs.Parking.{rank, rank_low, quiet_falls, park_quiet, park_loud}
-use Rattle.src_model.specs.Source.{Task, Call, Check, Begin, Meet, Give, Leaving, Fail, Deliver, Tell, Halting, Finished, State, Suspended, frame_limit, tasks_of, enters, begins, checked, leaves, last_tasks, site_on_top, acts, step, turns, settles, next, after, start, cut}
+use Rattle.src_model.specs.Source.{Task, Call, Check, Begin, Meet, Give, Leaving, Fail, Deliver, Tell, Halting, Finished, State, Suspended, frame_limit, tasks_of, begins, leaves, site_on_top, acts, step, turns, settles, next, after, start, cut}
 use Rattle.src_model.specs.Follows.{Behaves, machine_at, source_at}
 use Rattle.src_model.proofs.Determined.{settles_loud}
 

@@ -1,5 +1,5 @@
 -- The refusals of the compiler exclude each other.
-use Rattle.std.proofs.Common.{◌≡◌, ℕ, ◌<◌, ◌≤◌, ◌⊎◌, inl, inr, List, Option, Some, None, Result, Ok, Err, refl, sym, ap, subst, arith, length}
+use Rattle.std.proofs.Common.{◌≡◌, ℕ, ◌<◌, ◌⊎◌, inl, inr, List, Option, Some, None, Result, Ok, Err, refl, sym, subst, arith, length}
 use Rattle.std.specs.Prelude.{slice_get, IsSomeAnd, IfSome, IfOk, IfErr}
 use Rattle.std.proofs.lemmas.Option.{slice_get_within}
 use Rattle.core_unit.specs.declared.units.FunctionInfo.{FunctionInfo}

@@ -1,4 +1,4 @@
-ghost use Rattle.std.specs.Prelude.{◌≡◌, ◌<◌, ◌↔◌, ℕ, ◌⊎◌, Some, None, IfOk, IfErr};
+ghost use Rattle.std.specs.Prelude.{◌≡◌, ◌<◌, ◌≤◌, ◌↔◌, ℕ, ◌⊎◌, Some, None, IfOk, IfErr, OnOk};
 ghost use Rattle.c_codegen.specs.Unit.{HasNoEntry, IsEntry, IsFirstMissing, unit_nodes, node_limit};
 ghost use Rattle.src_model.specs.Follows.{Behaves};
 
@@ -27,6 +27,8 @@ pub enum CompileRefusal {
 pub fn compile(alloc: Global, unit: &Unit, entry: &str) -> Result<Code, CompileRefusal>
     ensures behaves { IfOk result (λ code. Behaves unit.now code) }
     ensures entry { IfOk result (λ code. IsEntry unit.now entry.now code.entry) }
+    ensures linked { OnOk result (IsFirstMissing unit.now None) }
+    ensures short { OnOk result (unit_nodes unit.now ≤ node_limit) }
     ensures no_entry { (result ≡ Err CompileRefusal.NoEntry) ↔ HasNoEntry unit.now entry.now }
     ensures undefined { (n : ℕ) → (result ≡ Err (CompileRefusal.Undefined n)) ↔ ((HasNoEntry unit.now entry.now → ⊥) × IsFirstMissing unit.now (Some n)) }
     ensures long { (result ≡ Err CompileRefusal.Long) ↔ ((HasNoEntry unit.now entry.now → ⊥) × IsFirstMissing unit.now None × (node_limit < unit_nodes unit.now)) }
@@ -44,6 +46,7 @@ pub fn compile(alloc: Global, unit: &Unit, entry: &str) -> Result<Code, CompileR
 fn compile_defined(alloc: Global, unit: &Unit, entry: u32) -> Result<Code, CompileRefusal>
     ensures behaves { IfOk result (λ code. Behaves unit.now code) }
     ensures entry { IfOk result (λ code. code.entry ≡ entry) }
+    ensures short { OnOk result (unit_nodes unit.now ≤ node_limit) }
     ensures long { (result ≡ Err CompileRefusal.Long) ↔ (node_limit < unit_nodes unit.now) }
     ensures refusal { IfErr result (λ refusal. (refusal ≡ CompileRefusal.Long) ⊎ (refusal ≡ CompileRefusal.NoMemory)) }
 {

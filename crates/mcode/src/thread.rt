@@ -1,6 +1,6 @@
 //! A thread of the plain machine, which is always parked at an event.
 
-ghost use Rattle.std.specs.Prelude.{◌≡◌, ◌∷◌, [], ◌<◌, ◌≤◌, ◌↔◌, ◌+◌, ◌^◌, length, IsTrue, IfOk, slice_get};
+ghost use Rattle.std.specs.Prelude.{◌≡◌, ◌∷◌, [], ◌<◌, ◌≤◌, ◌↔◌, ◌+◌, ◌^◌, length, IsTrue, IfOk, IfSome, slice_get};
 ghost use Rattle.mcode.specs.Steps.{is_quiet, asked, answered};
 
 use crate::code::{Code, Instruction};
@@ -54,6 +54,7 @@ impl Model for Thread {
 
 impl Thread {
     ghost use Rattle.mcode.specs.Machine.{Machine, Program, machine_next, machine_after, move, does, way_in, site_on_top, left_by, leaves, started, cut_short, enters, unless_halted};
+    ghost use Rattle.mcode.specs.Bounds.{address_of, words_end, HasRoom, frame_count};
 
     /// A thread with the memory for 256 frames, which nothing was started on yet.
     pub fn blank(alloc: Global) -> Result<Thread, AllocError>
@@ -84,7 +85,9 @@ impl Thread {
 
     /// The thread's next event, or Over where nothing is left.
     pub fn next(&self, code: &Code) -> Ask
-        ensures { result ≡ machine_next code.now self.now }
+        ensures event { result ≡ machine_next code.now self.now }
+        ensures low { IfSome (address_of result) (λ at. at < words_end) }
+        ensures room { HasRoom result (length self.now.frames) }
     {
         match self.mode {
             Mode::Starting(_) => Ask::Load(HALT),
@@ -103,7 +106,9 @@ impl Thread {
 
     // The event of this instruction; a quiet one shows none.
     fn next_of(&self, code: &Code, instruction: Option<Instruction>) -> Ask
-        ensures { result ≡ asked (does code.now self.now instruction) }
+        ensures event { result ≡ asked (does code.now self.now instruction) }
+        ensures low { IfSome (address_of result) (λ at. at < words_end) }
+        ensures room { HasRoom result (length self.now.frames) }
     {
         match instruction {
             Some(Instruction::CheckHalt) => Ask::Load(HALT),
@@ -126,6 +131,7 @@ impl Thread {
     pub fn answer(&mut self, code: &Code, word: u64) -> Turned
         ensures moved { self.new ≡ machine_after code.now self.old word }
         ensures went { result ≡ Turned.Went }
+        ensures frames { length self.new.frames ≡ frame_count (machine_next code.now self.old) (length self.old.frames) }
     {
         self.step(code, word);
         while self.is_quiet(code) {

@@ -1,4 +1,6 @@
 pub mod Commands
+pub mod Lines
+pub mod Runs
 pub mod Answers
 pub mod Refusals
 pub mod Printed

@@ -1,10 +1,16 @@
--- Why a source has no unit.
-use Rattle.std.specs.Prelude.{◌≡◌, ℕ, ◌≤◌, List, length}
+-- Why a source has no unit, and why a unit isn't run.
+use Rattle.std.specs.Prelude.{◌≡◌, ℕ, ◌<◌, ◌≤◌, List, length}
 use Rattle.c_text.specs.declared.Token.{Token}
 use Rattle.c_text.specs.Spelling.{IsSpelled, IsFirstFault}
-use Rattle.rtsan_core.specs.declared.checking.Refusal.{Refusal}
-use Rattle.rtsan_core.specs.declared.checking.Refusal.TheVariants.{Misspelled, NotBuilt, NoMemory}
+use Rattle.c_codegen.specs.declared.compiling.CompileRefusal.{CompileRefusal}
+use Rattle.c_codegen.specs.declared.compiling.CompileRefusal.TheVariants.{NoEntry, Undefined, Long, NoMemory as NoMemoryToCompile}
+use Rattle.core_unit.specs.Units.{UnitParts}
+use Rattle.eff_text.specs.WarningText.{function_name}
+use Rattle.rtsan_core.specs.declared.reading.Refusal.{Refusal}
+use Rattle.rtsan_core.specs.declared.reading.Refusal.TheVariants.{Misspelled, NotBuilt, NoMemory}
 use Rattle.rtsan_core.specs.Answers.{IsOtherForm}
+use Rattle.rtsan_core.specs.Lines.{Answer, misspelled, not_built, no_memory, unlinked, code_too_long}
+use Rattle.rtsan_core.specs.Runs.{entry_name}
 
 -- the spelling of the source has no fault
 pub record HasNoFault (source : List ℕ) : Type 0 where
@@ -27,3 +33,29 @@ abbrev pub IsRefusedFor : List ℕ → Refusal → Type 0
 IsRefusedFor source (Misspelled number place) = HasTheFault source number place
 IsRefusedFor source NotBuilt = IsElse source
 IsRefusedFor source NoMemory = Unit {0}
+
+-- what is printed for a refusal
+abbrev pub refused : (file source : List ℕ) → Refusal → Answer
+refused file source (Misspelled number place) = misspelled file source number place
+refused file source NotBuilt = not_built
+refused file source NoMemory = no_memory
+
+-- what is printed where a unit isn't compiled
+abbrev pub uncompiled : UnitParts → CompileRefusal → Answer
+uncompiled unit NoEntry = unlinked entry_name
+uncompiled unit (Undefined function) = unlinked (function_name unit function)
+uncompiled unit Long = code_too_long
+uncompiled unit NoMemoryToCompile = no_memory
+
+-- the place of a fault is one of the source
+abbrev pub IsPlacedIn : List ℕ → Refusal → Type 0
+IsPlacedIn source (Misspelled number place) = place ≤ length source
+IsPlacedIn source NotBuilt = Unit {0}
+IsPlacedIn source NoMemory = Unit {0}
+
+-- the function that has no definition is one of the unit
+abbrev pub IsNamedIn : UnitParts → CompileRefusal → Type 0
+IsNamedIn unit NoEntry = Unit {0}
+IsNamedIn unit (Undefined function) = function < length unit.functions
+IsNamedIn unit Long = Unit {0}
+IsNamedIn unit NoMemoryToCompile = Unit {0}

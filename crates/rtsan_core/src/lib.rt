@@ -1,15 +1,19 @@
 //! The commands of `rtsan`, from their words and their files to a status and a printed text.
 #![tactic(auto)]
 
-mod checking;
+mod commands;
+mod finished;
 mod printing;
+mod reading;
 mod serving;
 mod status;
+mod stepping;
 mod words;
 
-pub use checking::check_unit;
+pub use commands::{check_unit, step_unit};
+pub use finished::{Ended, EndedList, Finished};
 pub use serving::{Gate, out_of_memory, serve};
-pub use status::{Finished, Outcome, Status};
+pub use status::{Outcome, Status};
 pub use words::{Command, Job, WordsFault, read_words};
 
 #[cfg(test)]

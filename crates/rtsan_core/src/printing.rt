@@ -1,18 +1,26 @@
 //! The texts of the answers, each written whole or up to the sink's fault.
 
-ghost use Rattle.std.specs.Prelude.{◌≡◌, ◌≤◌, ◌++◌, length, OnOk, OnErr, decimal};
+ghost use Rattle.std.specs.Prelude.{◌≡◌, ◌≤◌, ◌++◌, List, length, OnOk, OnErr, decimal};
 ghost use Rattle.rt_base.specs.Outside.{Appends, AppendsPrefix, Rose};
-ghost use Rattle.rtsan_core.specs.Answers.{read_fault, usage, no_memory, not_built, source_too_long, misspelled, spelling_line, fault_text, warned};
+ghost use Rattle.rtsan_core.specs.Lines.{read_fault, usage, no_memory, not_built, source_too_long, misspelled, spelling_line, fault_text, warned, unlinked, warned_status, ended_status, run_status, run_texts, ran};
+ghost use Rattle.rtsan_core.specs.Refusals.{refused, uncompiled, IsPlacedIn, IsNamedIn};
 ghost use Rattle.rtsan_core.specs.Printed.{IsPrinted};
 ghost use Rattle.eff_text.specs.WarningText.{ArePrintable};
+ghost use Rattle.built_form.specs.Built.{AreCallsWithin};
+ghost use Rattle.ctx_set.specs.declared.steps.StackStep.{StackStep};
+ghost use Rattle.reports.specs.Totals.{counted};
 
+use crate::reading::{Checked, Refusal};
 use crate::status::Status;
+use c_codegen::CompileRefusal;
 use c_text::line_column;
 use core_unit::Unit;
 use eff_check::Verdicts;
 use eff_text::{write_pieces, write_warnings};
 use itoa::Buffer;
+use reports::{StackList, write_ending, write_reports};
 use rt_base::{Sink, SinkFault, write_all};
+use src_model::End;
 
 /// Writes a text that stands whole in the program.
 fn print_text<S: Sink>(out: &mut S, status: Status, text: &str) -> Status
@@ -30,7 +38,7 @@ pub fn print_usage<S: Sink>(out: &mut S) -> Status
     ensures printed { IsPrinted usage result (S.taken out.old) (S.taken out.new) (S.faults out.old) (S.faults out.new) }
     ensures later { S.faults out.old ≤ S.faults out.new }
 {
-    print_text(out, Status::Usage, "usage: rtsan check FILE\n")
+    print_text(out, Status::Usage, "usage: rtsan check FILE | step FILE\n")
 }
 
 /// Says that memory did not suffice.
@@ -50,7 +58,7 @@ pub fn print_source_too_long<S: Sink>(out: &mut S) -> Status
 }
 
 /// Says that the source isn't of the form that is built.
-pub fn print_not_built<S: Sink>(out: &mut S) -> Status
+fn print_not_built<S: Sink>(out: &mut S) -> Status
     ensures printed { IsPrinted not_built result (S.taken out.old) (S.taken out.new) (S.faults out.old) (S.faults out.new) }
     ensures later { S.faults out.old ≤ S.faults out.new }
 {
@@ -58,7 +66,7 @@ pub fn print_not_built<S: Sink>(out: &mut S) -> Status
 }
 
 /// Says that the spelling has its first fault of this number at this place.
-pub fn print_misspelled<S: Sink>(
+fn print_misspelled<S: Sink>(
     out: &mut S,
     file: &str,
     source: &[u8],
@@ -88,27 +96,137 @@ pub fn print_read_fault<S: Sink>(out: &mut S, file: &str) -> Status
     }
 }
 
-/// Writes the warnings of a unit.
-pub fn print_warnings<S: Sink>(
-    out: &mut S,
-    file: &str,
-    source: &[u8],
-    unit: &Unit,
-    verdicts: &Verdicts,
-) -> Status
-    requires { ArePrintable source.now unit.now verdicts.now }
-    ensures printed { IsPrinted (warned file.now source.now unit.now verdicts.now) result (S.taken out.old) (S.taken out.new) (S.faults out.old) (S.faults out.new) }
+/// Says why a source has no unit.
+pub fn print_refusal<S: Sink>(out: &mut S, file: &str, source: &[u8], refusal: Refusal) -> Status
+    requires short { length source.now ≤ 1048576 }
+    requires within { IsPlacedIn source.now refusal }
+    ensures printed { IsPrinted (refused file.now source.now refusal) result (S.taken out.old) (S.taken out.new) (S.faults out.old) (S.faults out.new) }
     ensures later { S.faults out.old ≤ S.faults out.new }
 {
-    let status = if verdicts.warnings().is_empty() {
+    match refusal {
+        Refusal::Misspelled { number, place } => print_misspelled(out, file, source, number, place),
+        Refusal::NotBuilt => print_not_built(out),
+        Refusal::NoMemory => print_no_memory(out),
+    }
+}
+
+/// Says that a function has no definition.
+fn print_unlinked<S: Sink>(out: &mut S, name: &str) -> Status
+    ensures printed { IsPrinted (unlinked name.now) result (S.taken out.old) (S.taken out.new) (S.faults out.old) (S.faults out.new) }
+    ensures later { S.faults out.old ≤ S.faults out.new }
+{
+    match write_pieces(&["rtsan: unlinked: ", name, "\n"], out) {
+        Ok(()) => Status::Unlinked,
+        Err(SinkFault) => Status::WriteFault,
+    }
+}
+
+/// Says why a unit isn't compiled.
+pub fn print_uncompiled<S: Sink>(out: &mut S, unit: &Unit, refusal: CompileRefusal) -> Status
+    requires { IsNamedIn unit.now refusal }
+    ensures printed { IsPrinted (uncompiled unit.now refusal) result (S.taken out.old) (S.taken out.new) (S.faults out.old) (S.faults out.new) }
+    ensures later { S.faults out.old ≤ S.faults out.new }
+{
+    match refusal {
+        CompileRefusal::NoEntry => print_unlinked(out, "main"),
+        CompileRefusal::Undefined(function) => print_unlinked(out, unit.target_name(function)),
+        CompileRefusal::Long => print_text(out, Status::Limit, "rtsan: limit: code\n"),
+        CompileRefusal::NoMemory => print_no_memory(out),
+    }
+}
+
+// The status of a unit with these warnings, where nothing else is said of it.
+fn warned_status(verdicts: &Verdicts) -> Status
+    ensures { result ≡ warned_status verdicts.now }
+{
+    if verdicts.warnings().is_empty() {
         Status::Clean
     } else {
         Status::Warned
-    };
-    match write_warnings(file, source, unit, verdicts, out) {
+    }
+}
+
+/// Writes the warnings of a unit.
+pub fn print_warnings<S: Sink>(out: &mut S, file: &str, source: &[u8], found: &Checked) -> Status
+    requires { ArePrintable source.now found.now.unit found.now.verdicts }
+    ensures printed { IsPrinted (warned file.now source.now found.now.unit found.now.verdicts) result (S.taken out.old) (S.taken out.new) (S.faults out.old) (S.faults out.new) }
+    ensures later { S.faults out.old ≤ S.faults out.new }
+{
+    let status = warned_status(&found.verdicts);
+    match write_warnings(file, source, &found.unit, &found.verdicts, out) {
         Ok(()) => status,
         Err(SinkFault) => Status::WriteFault,
     }
+}
+
+// The status of a run without reports, by the ending of its thread.
+fn ended_status(end: End, verdicts: &Verdicts) -> Status
+    ensures { result ≡ ended_status end verdicts.now }
+{
+    match end {
+        End::Returned => warned_status(verdicts),
+        End::Exited(_) => warned_status(verdicts),
+        End::Trapped(_) => Status::Trapped,
+        End::Halted => warned_status(verdicts),
+        End::Stopped => Status::Stopped,
+        End::Waiting => Status::Stopped,
+        End::Full => Status::Reported,
+    }
+}
+
+// The status of a run with these stacks of its reports and this ending of its thread.
+fn run_status(stacks: &StackList, end: End, verdicts: &Verdicts) -> Status
+    ensures { (reports : List (List StackStep)) → stacks.now ≡ counted reports → result ≡ run_status reports end verdicts.now }
+{
+    if stacks.len() > 0 {
+        return Status::Reported;
+    }
+    ended_status(end, verdicts)
+}
+
+/// Writes the warnings of a unit, the reports of its run, and the ending of its thread.
+pub fn print_run<S: Sink>(
+    out: &mut S,
+    file: &str,
+    source: &[u8],
+    found: &Checked,
+    stacks: &StackList,
+    end: End,
+) -> Status
+    requires short { length source.now ≤ 1048576 }
+    requires printable { ArePrintable source.now found.now.unit found.now.verdicts }
+    requires placed { AreCallsWithin source.now found.now.unit }
+    ensures printed { (reports : List (List StackStep)) → stacks.now ≡ counted reports → IsPrinted (ran file.now source.now found.now.unit found.now.verdicts reports end) result (S.taken out.old) (S.taken out.new) (S.faults out.old) (S.faults out.new) }
+    ensures later { S.faults out.old ≤ S.faults out.new }
+{
+    let status = run_status(stacks, end, &found.verdicts);
+    match write_run(out, file, source, found, stacks, end) {
+        Ok(()) => status,
+        Err(SinkFault) => Status::WriteFault,
+    }
+}
+
+/// Writes the text of a run.
+#[tactic(auto, unfolding(crate::specs::Lines::run_texts))]
+fn write_run<S: Sink>(
+    out: &mut S,
+    file: &str,
+    source: &[u8],
+    found: &Checked,
+    stacks: &StackList,
+    end: End,
+) -> Result<(), SinkFault>
+    requires short { length source.now ≤ 1048576 }
+    requires printable { ArePrintable source.now found.now.unit found.now.verdicts }
+    requires placed { AreCallsWithin source.now found.now.unit }
+    ensures all { OnOk result (Appends (S.taken out.old) (S.taken out.new) (run_texts file.now source.now found.now.unit found.now.verdicts stacks.now end)) }
+    ensures part { OnErr result (AppendsPrefix (S.taken out.old) (S.taken out.new) (run_texts file.now source.now found.now.unit found.now.verdicts stacks.now end)) }
+    ensures fault { OnErr result (Rose (S.faults out.old) (S.faults out.new)) }
+    ensures later { S.faults out.old ≤ S.faults out.new }
+{
+    write_warnings(file, source, &found.unit, &found.verdicts, out)?;
+    write_reports(&found.unit, source, stacks, out)?;
+    write_ending(0, end, out)
 }
 
 /// Writes the line of a refused spelling.
@@ -133,7 +251,7 @@ fn write_misspelled<S: Sink>(
     write_spelling_line(file, line, column, number_text, fault_text(number), out)
 }
 
-#[tactic(auto, unfolding(crate::specs::Answers::spelling_line))]
+#[tactic(auto, unfolding(crate::specs::Lines::spelling_line))]
 fn write_spelling_line<'a, S: Sink>(
     file: &'a str,
     line: &'a str,

@@ -1,15 +1,16 @@
 //! The top call.
 
-ghost use Rattle.std.specs.Prelude.{◌≡◌, ◌≢◌, ◌≤◌, ℕ, List, None, map};
+ghost use Rattle.std.specs.Prelude.{◌≡◌, ◌≢◌, ◌≤◌, ℕ, List, IfSome, None, map};
 ghost use Rattle.rt_base.specs.Outside.{Rose};
 ghost use Rattle.rtsan_core.specs.Commands.{command_of};
-ghost use Rattle.rtsan_core.specs.Answers.{Answer, IsAnswer, IsChecked, FileFailed, no_memory};
+ghost use Rattle.rtsan_core.specs.Answers.{IsAnswer, IsAnswered, IsCommandAnswer, FileFailed, IsRunOf};
+ghost use Rattle.rtsan_core.specs.Lines.{Answer, no_memory};
 ghost use Rattle.rtsan_core.specs.Printed.{HasAnswered, IsPrinted, IsUndisturbed, IsGiven};
 
-use crate::checking::check_unit;
+use crate::commands::{check_unit, step_unit};
 use crate::printing::{print_no_memory, print_usage};
-use crate::status::{Outcome, Status};
-use crate::words::{WordsFault, read_words};
+use crate::status::{Outcome, Status, ended};
+use crate::words::{Command, Job, WordsFault, read_words};
 use rt_base::{Files, Sink};
 use std::alloc::Global;
 use std::sync::Wait;
@@ -29,12 +30,12 @@ pub fn serve<R: Threads + Wait + Copy + Send + Sync, F: Files, S: Sink, G: Gate>
     out: &mut S,
     gate: &G,
 ) -> Outcome
-    ensures answer { HasAnswered (IsAnswer (map (λ word. word.now) words.now) (F.told files.old) (F.faults files.old) (F.faults files.new)) result.status (S.taken out.old) (S.taken out.new) (S.faults out.old) (S.faults out.new) }
+    ensures answer { HasAnswered (IsAnswer (map (λ word. word.now) words.now) (F.told files.old) (F.faults files.old) (F.faults files.new)) result (S.taken out.old) (S.taken out.new) (S.faults out.old) (S.faults out.new) }
     ensures usage { result.status ≡ Status.Usage → command_of (map (λ word. word.now) words.now) ≡ None }
     ensures read_fault { result.status ≡ Status.ReadFault → FileFailed (map (λ word. word.now) words.now) (F.faults files.old) (F.faults files.new) }
     ensures write_fault { result.status ≡ Status.WriteFault → Rose (S.faults out.old) (S.faults out.new) }
-    ensures determined { (file source : List ℕ) → IsUndisturbed (map (λ word. word.now) words.now) (F.told files.old) (F.faults files.old) (F.faults files.new) (S.faults out.old) (S.faults out.new) file source → result.status ≢ Status.NoMemory → (answer : Answer) → IsChecked file source answer → IsGiven answer result.status (S.taken out.old) (S.taken out.new) }
-    ensures finished { result.finished ≡ None }
+    ensures determined { (job : Job) (file source : List ℕ) → IsUndisturbed (map (λ word. word.now) words.now) (F.told files.old) (F.faults files.old) (F.faults files.new) (S.faults out.old) (S.faults out.new) job file source → result.status ≢ Status.NoMemory → (answer : Answer) → IsAnswered job file source answer → IsGiven answer result.status (S.taken out.old) (S.taken out.new) }
+    ensures left { IfSome result.finished (IsRunOf (map (λ word. word.now) words.now) (F.told files.old)) }
     ensures told { (name : List ℕ) → F.told files.new name ≡ F.told files.old name }
     ensures files_later { (name : List ℕ) → F.faults files.old name ≤ F.faults files.new name }
     ensures sink_later { S.faults out.old ≤ S.faults out.new }
@@ -49,16 +50,33 @@ fn answer_words<F: Files, S: Sink>(
     files: &mut F,
     out: &mut S,
 ) -> Outcome
-    ensures answer { HasAnswered (IsAnswer (map (λ word. word.now) words.now) (F.told files.old) (F.faults files.old) (F.faults files.new)) result.status (S.taken out.old) (S.taken out.new) (S.faults out.old) (S.faults out.new) }
-    ensures finished { result.finished ≡ None }
+    ensures answer { HasAnswered (IsAnswer (map (λ word. word.now) words.now) (F.told files.old) (F.faults files.old) (F.faults files.new)) result (S.taken out.old) (S.taken out.new) (S.faults out.old) (S.faults out.new) }
     ensures told { (name : List ℕ) → F.told files.new name ≡ F.told files.old name }
     ensures files_later { (name : List ℕ) → F.faults files.old name ≤ F.faults files.new name }
     ensures sink_later { S.faults out.old ≤ S.faults out.new }
 {
     match read_words(alloc, words) {
-        Ok(command) => check_unit(alloc, &command, files, out),
+        Ok(command) => answer_command(alloc, &command, files, out),
         Err(WordsFault::Usage) => ended(print_usage(out)),
         Err(WordsFault::NoMemory) => ended(print_no_memory(out)),
+    }
+}
+
+/// Does the job of a command.
+fn answer_command<F: Files, S: Sink>(
+    alloc: Global,
+    command: &Command,
+    files: &mut F,
+    out: &mut S,
+) -> Outcome
+    ensures answer { HasAnswered (IsCommandAnswer command.now (F.told files.old) (F.faults files.old) (F.faults files.new)) result (S.taken out.old) (S.taken out.new) (S.faults out.old) (S.faults out.new) }
+    ensures told { (name : List ℕ) → F.told files.new name ≡ F.told files.old name }
+    ensures files_later { (name : List ℕ) → F.faults files.old name ≤ F.faults files.new name }
+    ensures sink_later { S.faults out.old ≤ S.faults out.new }
+{
+    match command.job {
+        Job::Check => check_unit(alloc, command, files, out),
+        Job::Step => step_unit(alloc, command, files, out),
     }
 }
 
@@ -68,15 +86,4 @@ pub fn out_of_memory<S: Sink>(out: &mut S) -> Outcome
     ensures finished { result.finished ≡ None }
 {
     ended(print_no_memory(out))
-}
-
-/// A command that ended with this status and left no run.
-fn ended(status: Status) -> Outcome
-    ensures status { result.status ≡ status }
-    ensures finished { result.finished ≡ None }
-{
-    Outcome {
-        status,
-        finished: None,
-    }
 }

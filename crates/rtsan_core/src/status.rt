@@ -1,7 +1,9 @@
 //! The outcome of a command.
 
-ghost use Rattle.std.specs.Prelude.{◌≡◌};
+ghost use Rattle.std.specs.Prelude.{◌≡◌, None};
 ghost use Rattle.rtsan_core.specs.Statuses.{number_of};
+
+use crate::finished::Finished;
 
 /// How a command ended.
 #[derive(Clone, Copy, Debug, PartialEq, Eq)]
@@ -10,7 +12,7 @@ pub enum Status {
     Clean,
     /// a warning was given
     Warned,
-    /// a run reported a call; no command runs a file yet
+    /// a thread of the run reported a blocking call
     Reported,
     /// the spelling of the source has a fault, or the source isn't of the form that is built
     Refused,
@@ -22,13 +24,13 @@ pub enum Status {
     WriteFault,
     /// memory did not suffice
     NoMemory,
-    /// the source has more than 1,048,576 bytes
+    /// the source has more than 1,048,576 bytes, or its definitions more than 262,144 nodes
     Limit,
-    /// a function that a run needs has no definition; no command runs a file yet
+    /// `main` or a called function has no definition
     Unlinked,
-    /// a thread of a run trapped; no command runs a file yet
+    /// a thread of the run was trapped
     Trapped,
-    /// a thread of a run was stopped; no command runs a file yet
+    /// a thread of the run came to the event limit or to the wait limit
     Stopped,
 }
 
@@ -54,13 +56,20 @@ impl Status {
     }
 }
 
-/// What a finished run leaves; no command runs a unit yet.
-#[derive(Debug, Drop)]
-pub struct Finished;
-
 /// The status of a command, and what its run left, where there was one.
-#[derive(Debug, Drop)]
+#[derive(Drop)]
 pub struct Outcome {
     pub status: Status,
     pub finished: Option<Finished>,
+}
+
+/// A command that ended with this status and left no run.
+pub fn ended(status: Status) -> Outcome
+    ensures status { result.status ≡ status }
+    ensures finished { result.finished ≡ None }
+{
+    Outcome {
+        status,
+        finished: None,
+    }
 }

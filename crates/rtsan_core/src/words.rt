@@ -1,7 +1,7 @@
 //! The command words.
 
 ghost use Rattle.std.specs.Prelude.{◌≡◌, IfOk, Some, None, map};
-ghost use Rattle.rtsan_core.specs.Commands.{command_of, is_file_name};
+ghost use Rattle.rtsan_core.specs.Commands.{command_of, is_file_name, job_of, unless_no_job};
 ghost use Rattle.rtsan_core.specs.declared.words.WordsFault.TheVariants.{Usage};
 
 use core_unit::Name;
@@ -12,6 +12,8 @@ use std::alloc::{AllocError, Global};
 pub enum Job {
     /// warn by the function effect rules
     Check,
+    /// warn, and run the file event by event under the detector
+    Step,
 }
 
 /// A command.
@@ -30,21 +32,43 @@ pub enum WordsFault {
     NoMemory,
 }
 
-/// The command of these words, which are those after the program's name: `check` and the name of a file,
-/// which isn't empty and doesn't begin with `-`. Usage comes exactly where they are no command.
+/// The command of these words, which are those after the program's name: `check` or `step`, and the name of a file, which
+/// isn't empty and doesn't begin with `-`. Usage comes exactly where they are no command.
 pub fn read_words(alloc: Global, words: &[&str]) -> Result<Command, WordsFault>
     ensures command { IfOk result (λ command. command_of (map (λ word. word.now) words.now) ≡ Some command) }
     ensures usage { result ≡ Err Usage → command_of (map (λ word. word.now) words.now) ≡ None }
 {
-    match words {
-        [job, file] if *job == "check" && is_file_name(file) => match Name::new(alloc, file) {
-            Ok(file) => Ok(Command {
-                job: Job::Check,
-                file,
-            }),
-            Err(AllocError) => Err(WordsFault::NoMemory),
-        },
-        _ => Err(WordsFault::Usage),
+    let [job, file] = words else {
+        return Err(WordsFault::Usage);
+    };
+    match job_of(job) {
+        Some(job) => file_command(alloc, job, file),
+        None => Err(WordsFault::Usage),
+    }
+}
+
+// The job that a word names.
+fn job_of(word: &str) -> Option<Job>
+    ensures { result ≡ job_of word.now }
+{
+    match word {
+        "check" => Some(Job::Check),
+        "step" => Some(Job::Step),
+        _ => None,
+    }
+}
+
+// The command of a job and a word that may name a file.
+fn file_command(alloc: Global, job: Job, file: &str) -> Result<Command, WordsFault>
+    ensures command { IfOk result (λ command. unless_no_job file.now (Some job) ≡ Some command) }
+    ensures usage { result ≡ Err Usage → unless_no_job file.now (Some job) ≡ None }
+{
+    if !is_file_name(file) {
+        return Err(WordsFault::Usage);
+    }
+    match Name::new(alloc, file) {
+        Ok(file) => Ok(Command { job, file }),
+        Err(AllocError) => Err(WordsFault::NoMemory),
     }
 }
 

@@ -1,6 +1,6 @@
 -- The source thread: one C thread of a unit, as what remains to be done (C17, sections 6.5.2.2 and 6.8; the events are
 -- this project's own). One rule a line.
-use Rattle.std.specs.Prelude.{ℕ, zero, suc, ◌+◌, ◌-◌, ◌==◌, Bool, true, false, List, [], ◌∷◌, length, Option, Some, None, slice_get, nat_lt, if◌then◌else◌}
+use Rattle.std.specs.Prelude.{ℕ, suc, ◌-◌, ◌==◌, Bool, true, false, List, [], ◌∷◌, length, Option, Some, None, slice_get, nat_lt, if◌then◌else◌}
 use Rattle.core_unit.specs.declared.units.Body.{Body}
 use Rattle.core_unit.specs.declared.units.FunctionInfo.{FunctionInfo}
 use Rattle.core_unit.specs.declared.units.SiteInfo.{SiteInfo}

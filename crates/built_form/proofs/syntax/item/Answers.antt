@@ -1,12 +1,11 @@
--- No name after `void`, or no parameters after the name.
-use Rattle.built_form.proofs.Items.{item_no_name, item_no_parameters}
+-- No name and parameters after the first word.
+use Rattle.built_form.proofs.Items.{main_no_head, void_no_head}
 use Rattle.built_form.proofs.syntax.item.Goals as goal
 
 pub returns-in_err-name-clause-none : goal.returns-in_err-name-clause-none
 returns-in_err-name-clause-none c =
-    λ _. item_no_name c.args.cursor.now c.word.new.self c.in_ok-word.ensures.read c.in_err-name.ensures.none
+    λ _. main_no_head c.args.cursor.now c.take.new.self c.if-take.ensures.read c.in_err-name.ensures.none
 
-pub returns-in_err-parameters-clause-none : goal.returns-in_err-parameters-clause-none
-returns-in_err-parameters-clause-none c =
-    λ _. item_no_parameters c.args.cursor.now c.word.new.self c.name.new.self c.in_ok-name.name c.in_ok-word.ensures.read
-    c.in_ok-name.ensures.read c.in_err-parameters.ensures.none
+pub returns-in_err-name-2-clause-none : goal.returns-in_err-name-2-clause-none
+returns-in_err-name-2-clause-none c =
+    λ _. void_no_head c.args.cursor.now c.part.new.self (rw c.if-take.ensures.same at c.in_ok-part.ensures.read) c.in_err-name-2.ensures.none

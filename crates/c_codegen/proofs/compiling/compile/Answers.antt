@@ -1,5 +1,5 @@
-use Rattle.std.proofs.Common.{◌≡◌, ℕ, Err, ap}
-use Rattle.c_codegen.specs.declared.compiling.CompileRefusal.TheVariants.{NoEntry, Undefined, Long}
+use Rattle.std.proofs.Common.{Err, ap}
+use Rattle.c_codegen.specs.declared.compiling.CompileRefusal.TheVariants.{Undefined}
 use Rattle.c_codegen.proofs.Refusals.{has_entry, first_unique, none_or_first, undefined_same, no_entry_other, undefined_other}
 use Rattle.c_codegen.proofs.compiling.compile.Goals as goal
 

@@ -1,4 +1,4 @@
-use Rattle.std.proofs.Common.{◌≡◌, ◌<◌, ◌≤◌, ℕ, ap, arith, length}
+use Rattle.std.proofs.Common.{◌≤◌, ap, arith, length}
 use Rattle.c_codegen.proofs.Checks.{nodes_grow, code_short}
 use Rattle.c_codegen.proofs.emission.emit_unit.Goals as goal
 

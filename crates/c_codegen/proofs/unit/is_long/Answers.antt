@@ -1,6 +1,6 @@
-use Rattle.std.proofs.Common.{rules, ◌≡◌, ◌<◌, ◌≤◌, ℕ, suc, ap, arith, length}
+use Rattle.std.proofs.Common.{rules, ◌≡◌, ◌<◌, ◌≤◌, suc, ap, arith, length}
 use Rattle.std.specs.Prelude.{slice_get}
-use Rattle.c_codegen.specs.Unit.{nodes_in, body_nodes, nodes_below, unit_nodes, node_limit}
+use Rattle.c_codegen.specs.Unit.{nodes_in, body_nodes, unit_nodes, node_limit}
 use Rattle.c_codegen.proofs.Checks.{nodes_grow}
 use Rattle.c_codegen.proofs.unit.is_long.Goals as goal
 

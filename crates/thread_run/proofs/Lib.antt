@@ -1,0 +1,4 @@
+pub mod Opening
+pub mod Counted
+pub mod UnderWay
+pub mod Runner
