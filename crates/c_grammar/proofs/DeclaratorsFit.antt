@@ -4,7 +4,8 @@ use Rattle.grammar.specs.Parser.{begins, nothing, holds, and_then}
 use Rattle.grammar.proofs.Checked.{Checks, Orders, within, apart}
 use Rattle.c_tree.specs.declared.expressions.Spec.{Spec}
 use Rattle.c_grammar.specs.Lexemes.{Lexeme}
-use Rattle.c_grammar.specs.Rules.{Scope, Home, FileHome, BlockHome, MemberHome, TypeHome, BarredHome, Naming, Ordinary, Membered, Optional, Nameless, Bracket, Unknown, Passed, Barred, Opened, Reach, Nothing, NameAlone, Called, More, DeclaratorRead, ParamsRead, Specs, TypeName, Attributes, Declarator, Direct, Pointer, Group, Qualifiers, Params, ParamList}
+use Rattle.c_grammar.specs.Expressions.{has_type}
+use Rattle.c_grammar.specs.Rules.{Declared, Scope, Home, FileHome, BlockHome, MemberHome, TypeHome, BarredHome, Naming, Ordinary, Membered, Optional, Nameless, Bracket, Unknown, Passed, Barred, Opened, Reach, Nothing, NameAlone, Called, More, DeclaratorRead, ParamsRead, Specs, TypeName, Attributes, Declarator, Direct, Pointer, Group, Qualifiers, Params, ParamList}
 use Rattle.c_text.specs.declared.Token.{Token}
 use Rattle.c_grammar.specs.declared.Sign.TheVariants as k
 use Rattle.c_grammar.specs.Lexemes.{is, has_text}
@@ -18,7 +19,7 @@ use Rattle.c_grammar.proofs.Fine.{Fine, begins_not}
 
 -- the test of the names in a row of names
 abbrev known : Scope → List ℕ → Token → Bool
-known s text token = has_text s.types (record { sign = k.Name; token = token; text = text })
+known s text token = has_type s.types (record { sign = k.Name; token = token; text = text })
 
 -- A whole direct declarator goes on to the end of the declarator, and one whose `[` has no array to nothing.
 closed_fine : (open_at : Option ℕ) (x : DeclaratorRead)
@@ -86,17 +87,17 @@ step_apart s naming b None x = λ y p. refl
 step_apart s naming b (Some q) x = λ y p. refl
 
 -- parameters and a declarator in a group begin apart: what may be a typedef name is one
-group_first : (block : Bool) (types : List (List ℕ))
+group_first : (block : Bool) (types : List Declared)
     → All (λ t. apart (starts_specs BarredHome (record { types = types; block = block }) no_specs t || false)
     (is k.CloseParen t || (starts_declarator (record { types = types; block = block }) Optional Barred t || false)))
-group_first true types = λ x p. apart_guard (has_text types (record { sign = k.Name; token = p; text = x })) (not (has_text reserved_names (record { sign = k.Name; token = p; text = x })))
-group_first false types = λ x p. apart_guard (has_text types (record { sign = k.Name; token = p; text = x })) (not (has_text reserved_names (record { sign = k.Name; token = p; text = x })))
+group_first true types = λ x p. apart_guard (has_type types (record { sign = k.Name; token = p; text = x })) (not (has_text reserved_names (record { sign = k.Name; token = p; text = x })))
+group_first false types = λ x p. apart_guard (has_type types (record { sign = k.Name; token = p; text = x })) (not (has_text reserved_names (record { sign = k.Name; token = p; text = x })))
 
-nameless_first : (block : Bool) (types : List (List ℕ))
+nameless_first : (block : Bool) (types : List Declared)
     → All (λ t. apart (starts_specs BarredHome (record { types = types; block = block }) no_specs t || false)
     (is k.CloseParen t || (starts_declarator (record { types = types; block = block }) Nameless Barred t || false)))
-nameless_first true types = λ x p. apart_none ((has_text types (record { sign = k.Name; token = p; text = x }) || false) || false)
-nameless_first false types = λ x p. apart_none ((has_text types (record { sign = k.Name; token = p; text = x }) || false) || false)
+nameless_first true types = λ x p. apart_none ((has_type types (record { sign = k.Name; token = p; text = x }) || false) || false)
+nameless_first false types = λ x p. apart_none ((has_type types (record { sign = k.Name; token = p; text = x }) || false) || false)
 
 -- what follows the specifiers of a parameter or a type name
 param_specs : (home : Home) (s : Scope) (open_at : Option ℕ)

@@ -1,7 +1,8 @@
 -- One token decides in expressions.
 use Rattle.std.proofs.Common.{ℕ, Bool, true, false, not, ◌&&◌, ◌||◌, List, refl}
 use Rattle.grammar.proofs.Checked.{within, apart}
-use Rattle.c_grammar.specs.Rules.{Scope, Front, CastFront, UnaryFront, BareFront, OpenedFront, Level, OrOr, TypeHome, Expression, Assignment, Conditional, Prefix, Arguments, MoreArguments, Binary, Operand, Postfix, Primary, Texts}
+use Rattle.c_grammar.specs.Expressions.{has_type}
+use Rattle.c_grammar.specs.Rules.{Declared, Scope, Front, CastFront, UnaryFront, BareFront, OpenedFront, Level, OrOr, TypeHome, Expression, Assignment, Conditional, Prefix, Arguments, MoreArguments, Binary, Operand, Postfix, Primary, Texts}
 use Rattle.c_grammar.proofs.Every.{All, rows, names_differ}
 use Rattle.c_grammar.specs.declared.Sign.TheVariants as k
 use Rattle.c_grammar.specs.Lexemes.{is, has_text}
@@ -11,11 +12,11 @@ use Rattle.c_grammar.specs.Grammar.{starts_specs, starts_expression, ends_operan
 use Rattle.c_grammar.proofs.Fine.{Fine, begins_not}
 
 -- a type name and an expression begin apart: by the words of functions and by the typedef names
-pub types_first : (block : Bool) (types : List (List ℕ))
+pub types_first : (block : Bool) (types : List Declared)
     → All (λ t. apart (starts_specs TypeHome (record { types = types; block = block }) no_specs t || false)
     (starts_expression (record { types = types; block = block }) t || false))
-types_first true types = λ x p. names_differ (has_text types (record { sign = k.Name; token = p; text = x }))
-types_first false types = λ x p. names_differ (has_text types (record { sign = k.Name; token = p; text = x }))
+types_first true types = λ x p. names_differ (has_type types (record { sign = k.Name; token = p; text = x }))
+types_first false types = λ x p. names_differ (has_type types (record { sign = k.Name; token = p; text = x }))
 
 -- a postfix operator stands behind what is no cast
 step_rows : (cast : Bool) → All (λ t. within

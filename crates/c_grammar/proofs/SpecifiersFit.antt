@@ -6,6 +6,7 @@ use Rattle.grammar.proofs.Checked.{Checks, Orders, within, apart, alike}
 use Rattle.c_tree.specs.declared.words.AttrSpelling.{AttrSpelling}
 use Rattle.c_tree.specs.declared.words.AttrSpelling.TheVariants.{Brackets, Gnu}
 use Rattle.c_grammar.specs.Lexemes.{Lexeme}
+use Rattle.c_grammar.specs.Expressions.{has_type}
 use Rattle.c_grammar.specs.Rules.{Scope, Home, FileHome, BlockHome, MemberHome, TypeHome, BarredHome, Storage, StaticStorage, Kind, FullKind, SpecsState, Membered, Unknown, SpecsRead, Specs, Members, MemberDeclarators, Enumerators, ClangWords, GnuWords, Effect, Attributes}
 use Rattle.std.proofs.Common.{is_none}
 use Rattle.c_grammar.specs.declared.Sign.{Sign}
@@ -77,7 +78,7 @@ more_follows BarredHome s x = barred_follows s x.bracket
   where
     barred_follows : (s : Scope) (o : Option ℕ) → All (λ t. within (ends_specs BarredHome o s t) (ends_specs TypeHome o s t))
     barred_follows s None = λ y p. refl
-    barred_follows s (Some q) = λ y p. within_self (not (has_text s.types (record { sign = k.Name; token = p; text = y })))
+    barred_follows s (Some q) = λ y p. within_self (not (has_type s.types (record { sign = k.Name; token = p; text = y })))
 
 -- one specifier more
 abbrev Follows : Home → Scope → SpecsRead → Lexeme → Bool
@@ -119,14 +120,14 @@ bracket_fine : (home : Home) (ends : Bool) (s : Scope) (state : SpecsState) (q :
 bracket_fine TypeHome true s state q = (
   refl,
   (λ y p. refl),
-  (λ y p. apart_none (not (has_text s.types (record { sign = k.Name; token = p; text = y })))),
+  (λ y p. apart_none (not (has_type s.types (record { sign = k.Name; token = p; text = y })))),
   (λ t e words. ((λ y p. refl), (λ y p. refl), attribute_fine TypeHome s state q Brackets words)),
   tt,
 )
 bracket_fine BarredHome true s state q = (
   refl,
   (λ y p. refl),
-  (λ y p. apart_none (not (has_text s.types (record { sign = k.Name; token = p; text = y })))),
+  (λ y p. apart_none (not (has_type s.types (record { sign = k.Name; token = p; text = y })))),
   (λ t e words. ((λ y p. refl), (λ y p. refl), attribute_fine BarredHome s state q Brackets words)),
   tt,
 )
@@ -366,4 +367,4 @@ effect_fine Brackets = (search rows depth 20, refl, (tt, tt), (refl, effects_apa
 effect_fine Gnu = (search rows depth 20, refl, (tt, tt), (refl, effects_apart Gnu, (λ x p. refl), (λ t e. (refl, (λ x p. refl), (λ x p. refl), (λ t e. (λ t e. (λ t e. tt))), tt)), (λ t e. tt)))
 
 pub attributes_fine : (s : Scope) → Fine (Attributes s)
-attributes_fine s = ((λ x p. refl), refl, (tt, (tt, tt)), (refl, (λ x p. refl), (λ x p. refl), (λ t e. (refl, (λ x p. refl), (λ x p. apart_none (not (has_text s.types (record { sign = k.Name; token = p; text = x })))), (λ t e. (λ a. ((λ x p. refl), (λ x p. refl), (λ a. (begins_not (Attributes s) a, attributes_follow s a.bracket, tt))))), tt)), (refl, (λ x p. refl), (λ x p. refl), (λ t e. (λ t e. (λ t e. (λ a. ((λ x p. refl), (λ x p. refl), (λ a. (begins_not (Attributes s) a, attributes_follow s a.bracket, tt))))))), tt)))
+attributes_fine s = ((λ x p. refl), refl, (tt, (tt, tt)), (refl, (λ x p. refl), (λ x p. refl), (λ t e. (refl, (λ x p. refl), (λ x p. apart_none (not (has_type s.types (record { sign = k.Name; token = p; text = x })))), (λ t e. (λ a. ((λ x p. refl), (λ x p. refl), (λ a. (begins_not (Attributes s) a, attributes_follow s a.bracket, tt))))), tt)), (refl, (λ x p. refl), (λ x p. refl), (λ t e. (λ t e. (λ t e. (λ a. ((λ x p. refl), (λ x p. refl), (λ a. (begins_not (Attributes s) a, attributes_follow s a.bracket, tt))))))), tt)))

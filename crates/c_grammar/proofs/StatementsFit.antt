@@ -1,7 +1,8 @@
 -- One token decides in initializers, declarations, statements and the file.
 use Rattle.std.proofs.Common.{ℕ, Bool, true, false, not, ◌&&◌, ◌||◌, List, Option, Some, None, refl}
 use Rattle.grammar.proofs.Checked.{within, apart, alike}
-use Rattle.c_grammar.specs.Rules.{Scope, FileHome, BlockHome, Ordinary, Unknown, Specs, Initializer, Braces, Initializers, InitDeclarators, MoreDeclarators, Declaration, MaybeExpression, Statement, Block, BlockItems, External, Externals, Unit}
+use Rattle.c_grammar.specs.Expressions.{has_type}
+use Rattle.c_grammar.specs.Rules.{Declared, Scope, FileHome, BlockHome, Ordinary, Unknown, Specs, Initializer, Braces, Initializers, InitDeclarators, MoreDeclarators, Declaration, MaybeExpression, Statement, Block, BlockItems, External, Externals, Unit}
 use Rattle.c_grammar.specs.declared.Sign.TheVariants as k
 use Rattle.c_grammar.specs.Lexemes.{is, has_text}
 use Rattle.c_grammar.specs.Specifiers.{no_specs}
@@ -33,26 +34,26 @@ item_follows s loop true = λ x p. refl
 item_follows s loop false = λ x p. refl
 
 -- declarations and statements begin apart
-for_first : (block : Bool) (types : List (List ℕ))
+for_first : (block : Bool) (types : List Declared)
     → All (λ t. apart (starts_specs BlockHome (record { types = types; block = block }) no_specs t || false)
     (starts_expression (record { types = types; block = block }) t || is k.Semicolon t))
-for_first true types = λ x p. names_differ (has_text types (record { sign = k.Name; token = p; text = x }))
-for_first false types = λ x p. names_differ (has_text types (record { sign = k.Name; token = p; text = x }))
+for_first true types = λ x p. names_differ (has_type types (record { sign = k.Name; token = p; text = x }))
+for_first false types = λ x p. names_differ (has_type types (record { sign = k.Name; token = p; text = x }))
 
-item_first : (block loop : Bool) (types : List (List ℕ))
+item_first : (block loop : Bool) (types : List Declared)
     → All (λ t. apart (starts_specs BlockHome (record { types = types; block = block }) no_specs t || false)
     ((starts_statement (record { types = types; block = block }) loop t || false) || false))
-item_first true loop types = λ x p. names_apart (has_text types (record { sign = k.Name; token = p; text = x }))
-item_first false loop types = λ x p. names_apart (has_text types (record { sign = k.Name; token = p; text = x }))
+item_first true loop types = λ x p. names_apart (has_type types (record { sign = k.Name; token = p; text = x }))
+item_first false loop types = λ x p. names_apart (has_type types (record { sign = k.Name; token = p; text = x }))
 
-items_first : (block loop : Bool) (types : List (List ℕ))
+items_first : (block loop : Bool) (types : List Declared)
     → All (λ t. alike (starts_specs BlockHome (record { types = types; block = block }) no_specs t || starts_statement (record { types = types; block = block }) loop t)
     ((starts_specs BlockHome (record { types = types; block = block }) no_specs t || false)
     || ((starts_statement (record { types = types; block = block }) loop t || false) || false)))
-items_first true true types = λ x p. names_either (has_text types (record { sign = k.Name; token = p; text = x }))
-items_first true false types = λ x p. names_either (has_text types (record { sign = k.Name; token = p; text = x }))
-items_first false true types = λ x p. names_either (has_text types (record { sign = k.Name; token = p; text = x }))
-items_first false false types = λ x p. names_either (has_text types (record { sign = k.Name; token = p; text = x }))
+items_first true true types = λ x p. names_either (has_type types (record { sign = k.Name; token = p; text = x }))
+items_first true false types = λ x p. names_either (has_type types (record { sign = k.Name; token = p; text = x }))
+items_first false true types = λ x p. names_either (has_type types (record { sign = k.Name; token = p; text = x }))
+items_first false false types = λ x p. names_either (has_type types (record { sign = k.Name; token = p; text = x }))
 
 -- declarators and `;` follow specifiers of declarations
 block_specs : (s : Scope) (o : Option ℕ) → All (λ t. within (is k.Semicolon t || (starts_declarator s Ordinary Unknown t || false)) (ends_specs BlockHome o s t))

@@ -10,8 +10,6 @@
 -- A declarator and an abstract one are read by one rule, which knows whether a name must, may or can't stand at
 -- the inmost (Naming). They are made of the same parts, and all that a parameter may have is one of the two.
 use Rattle.std.specs.Prelude.{ℕ, Bool, true, false, not, ◌&&◌, List, [], ◌∷◌, Option, Some, None}
-use Rattle.std.specs.List.{filter}
-use Rattle.std.specs.Str.{bytes_eq}
 use Rattle.grammar.specs.Parts.{Return, Take, Call, Either}
 use Rattle.c_tree.specs.declared.words.AttrSpelling.TheVariants.{Brackets}
 use Rattle.c_tree.specs.declared.words.TypeWord.TheVariants as type_word
@@ -30,16 +28,13 @@ use Rattle.c_grammar.specs.declared.Sign.TheVariants as k
 use Rattle.c_grammar.specs.Lexemes.{Lexeme, span, place, is, has_text}
 use Rattle.c_grammar.specs.Trees.{specs_place}
 use Rattle.c_grammar.specs.Rules.{Scope, Home, TypeHome, BarredHome, Naming, Ordinary, Membered, Optional, Nameless, Bracket, Unknown, Passed, Barred, Opened, Reach, Nothing, NameAlone, Called, More, AttributesRead, DeclaratorRead, ParamsRead, Conditional, Specs, ClangWords, Attributes, Declarator, Direct, Pointer, Group, Qualifiers, Params, ParamList}
-use Rattle.c_grammar.specs.Expressions.{Reading, word, dead_end}
+use Rattle.c_grammar.specs.Expressions.{Reading, word, dead_end, has_type}
 use Rattle.c_grammar.specs.Specifiers.{no_specs, reserved_names, is_ordinary_name, is_qualifier, attr, after}
 
 -- A name is no typedef name from here on.
-abbrev pub without : List ℕ → List (List ℕ) → List (List ℕ)
-without name types = filter (λ type. not (bytes_eq type name)) types
-
 abbrev pub hide : Option (List ℕ) → Scope → Scope
 hide None s = s
-hide (Some name) s = record s { types = without name s.types }
+hide (Some name) s = record s { types = record { name = name; is_type = false } ∷ s.types }
 
 abbrev pub hide_all : List (List ℕ) → Scope → Scope
 hide_all [] s = s
@@ -115,7 +110,7 @@ pointer s naming =
 
 -- an ordinary name that is no typedef name
 abbrev pub is_free_name : Scope → Lexeme → Bool
-is_free_name s t = is k.Name t && (not (has_text s.types t) && not (has_text reserved_names t))
+is_free_name s t = is k.Name t && (not (has_type s.types t) && not (has_text reserved_names t))
 
 -- what a direct declarator begins with
 abbrev pub direct_start : Scope → Naming → Bracket → Reading DeclaratorRead

@@ -10,7 +10,8 @@
 --     primary = ident | number | charconst | string { string } | "(" expr ")" .
 --
 -- `binary` is made of `cast` by the levels of binary operators, each of which leans to the left.
-use Rattle.std.specs.Prelude.{ℕ, Bool, false, not, ◌&&◌, List, [], ◌∷◌}
+use Rattle.std.specs.Prelude.{ℕ, Bool, false, not, ◌&&◌, List, [], ◌∷◌, if◌then◌else◌}
+use Rattle.std.specs.Str.{bytes_eq}
 use Rattle.grammar.specs.Parts.{Parts, Return, Take, Call, Either}
 use Rattle.c_tree.specs.declared.words.Span.{Span}
 use Rattle.c_tree.specs.declared.expressions.Expr.{Expr}
@@ -25,9 +26,9 @@ use Rattle.c_tree.specs.declared.expressions.AssignmentOperator.{AssignmentOpera
 use Rattle.c_tree.specs.declared.expressions.AssignmentOperator.TheVariants as assignment
 use Rattle.c_grammar.specs.declared.Sign.{Sign}
 use Rattle.c_grammar.specs.declared.Sign.TheVariants as k
-use Rattle.c_grammar.specs.Lexemes.{Lexeme, span, place, is, is_among, has_text}
+use Rattle.c_grammar.specs.Lexemes.{Lexeme, span, place, is, is_among}
 use Rattle.c_grammar.specs.Trees.{place_of, is_cast, is_conditional, is_unary}
-use Rattle.c_grammar.specs.Rules.{Scope, Front, CastFront, UnaryFront, BareFront, OpenedFront, Level, OrOr, AndAnd, Bar, Caret, Ampersand, Equality, Relation, Shift, Sum, Product, Rule, Expression, Assignment, Conditional, Prefix, Arguments, MoreArguments, TypeName, Binary, Operand, Postfix, Texts, ValueOf}
+use Rattle.c_grammar.specs.Rules.{Declared, Scope, Front, CastFront, UnaryFront, BareFront, OpenedFront, Level, OrOr, AndAnd, Bar, Caret, Ampersand, Equality, Relation, Shift, Sum, Product, Rule, Expression, Assignment, Conditional, Prefix, Arguments, MoreArguments, TypeName, Binary, Operand, Postfix, Texts, ValueOf}
 
 -- parts of a rule of this grammar
 abbrev pub Reading : Type 0 → Type 0
@@ -41,9 +42,17 @@ word sign rest = Take (is sign) rest
 abbrev pub dead_end : {A : Type 0} → A → Reading A
 dead_end x = Take (λ t. false) (λ t. Return x)
 
+-- The text is a typedef name: it was declared, and the last time as one.
+abbrev pub is_type_name : List Declared → List ℕ → Bool
+is_type_name [] text = false
+is_type_name (latest ∷ before) text = if bytes_eq latest.name text then latest.is_type else is_type_name before text
+
+abbrev pub has_type : List Declared → Lexeme → Bool
+has_type types t = is_type_name types t.text
+
 -- a name that is no typedef name in this scope
 abbrev pub is_plain_name : Scope → Lexeme → Bool
-is_plain_name s t = is k.Name t && not (has_text s.types t)
+is_plain_name s t = is k.Name t && not (has_type s.types t)
 
 -- expr: commas, which lean to the left
 abbrev pub comma_step : Scope → Expr → Reading Expr

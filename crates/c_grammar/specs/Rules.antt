@@ -25,9 +25,14 @@ use Rattle.c_tree.specs.declared.statements.BlockItem.{BlockItem}
 use Rattle.c_tree.specs.declared.statements.External as statements
 use Rattle.c_tree.specs.declared.statements.Tree.{Tree}
 
--- The typedef names in scope, by their texts, and whether this stands in a block.
+-- A name that was declared, by its text, and whether it is a typedef name.
+pub record Declared : Type 0 where
+  pub name : List ℕ
+  pub is_type : Bool
+
+-- The names declared so far that can be or hide typedef names, the latest first, and whether this stands in a block.
 pub record Scope : Type 0 where
-  pub types : List (List ℕ)
+  pub types : List Declared
   pub block : Bool
 
 -- What an operand may begin with.

@@ -43,7 +43,7 @@ use Rattle.c_grammar.specs.declared.Sign.TheVariants as k
 use Rattle.c_grammar.specs.Lexemes.{Lexeme, span, place, is, is_among, has_text}
 use Rattle.c_grammar.specs.Trees.{specs_place}
 use Rattle.c_grammar.specs.Rules.{Scope, Home, FileHome, BlockHome, MemberHome, TypeHome, BarredHome, Storage, NoStorage, StaticStorage, OtherStorage, Kind, CharKind, IntKind, SignedKind, UnsignedKind, FullKind, SpecsState, Membered, Nameless, Bracket, Unknown, Passed, Opened, SpecsRead, AttributesRead, Conditional, Specs, Members, MemberDeclarators, Enumerators, ClangWords, GnuWords, Effect, Attributes, Declarator}
-use Rattle.c_grammar.specs.Expressions.{Reading, word, dead_end}
+use Rattle.c_grammar.specs.Expressions.{Reading, word, dead_end, has_type}
 
 -- the reserved names: they are not declared as ordinary names
 abbrev pub reserved_names : List (List ℕ)
@@ -102,7 +102,7 @@ is_type_word state t = is_among (k.Void ∷ k.Char ∷ k.Int ∷ k.Signed ∷ k.
 
 -- a typedef name, where no type specifier stands before it
 abbrev pub is_type_here : Scope → SpecsState → Lexeme → Bool
-is_type_here s state t = is k.Name t && (is_none state.kind && has_text s.types t)
+is_type_here s state t = is k.Name t && (is_none state.kind && has_type s.types t)
 
 -- a specifier of one word
 abbrev pub is_spec_word : Home → Scope → SpecsState → Lexeme → Bool

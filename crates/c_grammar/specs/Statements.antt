@@ -30,7 +30,7 @@ use Rattle.c_tree.specs.declared.statements.Tree.{Tree}
 use Rattle.c_grammar.specs.declared.Sign.TheVariants as k
 use Rattle.c_grammar.specs.Lexemes.{Lexeme, place, is}
 use Rattle.c_grammar.specs.Trees.{place_of, specs_place, has_typedef}
-use Rattle.c_grammar.specs.Rules.{Scope, FileHome, BlockHome, Ordinary, Unknown, SpecsRead, DeclaratorRead, DeclaratorsRead, DeclarationRead, ExternalRead, BlockRead, StatementRead, Expression, Assignment, Specs, Declarator, Initializer, Braces, Initializers, InitDeclarators, MoreDeclarators, Declaration, MaybeExpression, Statement, Block, BlockItems, External, Externals}
+use Rattle.c_grammar.specs.Rules.{Declared, Scope, FileHome, BlockHome, Ordinary, Unknown, SpecsRead, DeclaratorRead, DeclaratorsRead, DeclarationRead, ExternalRead, BlockRead, StatementRead, Expression, Assignment, Specs, Declarator, Initializer, Braces, Initializers, InitDeclarators, MoreDeclarators, Declaration, MaybeExpression, Statement, Block, BlockItems, External, Externals}
 use Rattle.c_grammar.specs.Expressions.{Reading, word}
 use Rattle.c_grammar.specs.Specifiers.{no_specs}
 use Rattle.c_grammar.specs.Declarators.{hide, hide_all}
@@ -51,7 +51,7 @@ initializers s =
 -- the scope behind a declarator
 abbrev pub add_type : Option (List ℕ) → Scope → Scope
 add_type None s = s
-add_type (Some name) s = record s { types = name ∷ s.types }
+add_type (Some name) s = record s { types = record { name = name; is_type = true } ∷ s.types }
 
 abbrev pub declare : Scope → Bool → Option (List ℕ) → Scope
 declare s typedefs name = cond s.block (hide name s) (cond typedefs (add_type name s) s)
@@ -157,8 +157,11 @@ abbrev pub externals : Scope → Reading (List statements.External)
 externals s = Either (Call (External s) (λ x. Call (Externals x.scope) (λ more. Return (x.tree ∷ more)))) (Return [])
 
 -- the typedef names that every file begins with
+abbrev pub type : List ℕ → Declared
+type name = record { name = name; is_type = true }
+
 abbrev pub file_scope : Scope
-file_scope = record { types = codes "size_t" ∷ codes "pthread_t" ∷ codes "pthread_mutex_t" ∷ []; block = false }
+file_scope = record { types = type (codes "size_t") ∷ type (codes "pthread_t") ∷ type (codes "pthread_mutex_t") ∷ []; block = false }
 
 abbrev pub unit : Reading Tree
 unit = Call (Externals file_scope) (λ all. Return (record { externals = all }))

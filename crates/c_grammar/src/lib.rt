@@ -44,9 +44,9 @@ pub fn files_are_parsed()
     parser_is_exact::<CSource>();
 }
 
-/// `void f(void) [[clang::nonbl` is refused at the word that is cut, as not expected.
+/// In any source, `void f(void) [[clang::nonbl` is refused at the word that is cut, as not expected.
 pub fn cut_attribute_is_refused()
-    ensures { IsRefusedWith (cut_before ++ cut_word ∷ []) 1 (cut_word ∷ []) }
+    ensures { (source : List ℕ) → IsRefusedWith source (cut_before ++ cut_word ∷ []) 1 (cut_word ∷ []) }
 {}
 
 /// What a token is to the grammar.

@@ -11,7 +11,7 @@ use Rattle.c_grammar.proofs.cut_attribute_is_refused.Goals as goal
 
 pub returns : goal.returns
 unfolding parse
-returns c = (
+returns c = λ source. (
   false,
   cut_before,
   refl,
