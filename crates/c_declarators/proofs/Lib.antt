@@ -1,0 +1,10 @@
+pub mod Then
+pub mod Attributed
+pub mod Specifying
+pub mod Lines
+pub mod Pointing
+pub mod Starting
+pub mod Directs
+pub mod Nesting
+pub mod Listing
+pub mod Grouping

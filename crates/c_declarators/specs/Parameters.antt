@@ -1,0 +1,57 @@
+-- Parameters, by the parts of the code.
+use Rattle.std.specs.Prelude.{ℕ, max, Bool, true, false, not, ◌&&◌, ◌||◌, List, [], ◌∷◌, ◌++◌, Option, Some, None}
+use Rattle.grammar.specs.Parts.{Return, Call}
+use Rattle.grammar.specs.Parser.{Outcome, Got, Bad}
+use Rattle.c_tree.specs.declared.words.TypeWord.TheVariants as type_word
+use Rattle.c_tree.specs.declared.expressions.Spec.{Spec}
+use Rattle.c_tree.specs.declared.expressions.Spec.TheVariants as spec
+use Rattle.c_tree.specs.declared.expressions.Param.{Param}
+use Rattle.c_tree.specs.declared.expressions.Parameters.{Parameters}
+use Rattle.c_tree.specs.declared.expressions.Parameters.TheVariants as parameters
+use Rattle.c_tree.specs.declared.expressions.Declarator as trees
+use Rattle.c_tree.specs.declared.expressions.Declarator.TheVariants as d
+use Rattle.c_grammar.specs.declared.Sign.TheVariants as k
+use Rattle.c_grammar.specs.Lexemes.{Lexeme, is, is_among}
+use Rattle.c_grammar.specs.Rules.{Scope, Home, Optional, ParamsRead, Specs, Declarator}
+use Rattle.c_grammar.specs.Expressions.{Reading, has_type}
+use Rattle.c_grammar.specs.Specifiers.{no_specs, after}
+use Rattle.c_grammar.specs.Declarators.{param, join, with_name}
+
+abbrev pub is_absent : trees.Declarator → Bool
+is_absent d.Absent = true
+is_absent _ = false
+
+abbrev pub lone_void : List Spec → Option ℕ
+lone_void (spec.Type place type_word.Void ∷ []) = Some place
+lone_void _ = None
+
+-- the parameters, of which this is the place of the one word `void` where they are it
+abbrev pub listed : Option ℕ → List Param → Parameters
+listed (Some place) params = parameters.Void place
+listed None [] = parameters.Empty
+listed None (p ∷ more) = parameters.List (p ∷ more)
+
+-- what may begin a parameter
+abbrev pub starts_list : Bool → Scope → Lexeme → Bool
+starts_list barred s t =
+    (is_among (k.Inline ∷ k.NoReturn ∷ []) t && not s.block)
+    || (is_among (k.Const ∷ k.Volatile ∷ k.Restrict ∷ k.Void ∷ k.Char ∷ k.Int ∷ k.Signed ∷ k.Unsigned ∷ []) t
+    || ((is k.Name t && has_type s.types t) || (is_among (k.Struct ∷ k.Enum ∷ k.Attribute ∷ []) t || (is k.OpenBracket t && not barred))))
+
+-- one parameter with the text of its name
+pub record ParamRead : Type 0 where
+  pub param : Param
+  pub name : Option (List ℕ)
+
+abbrev pub one_param : Home → Scope → List Spec → Reading ParamRead
+one_param home s before =
+    Call (Specs home s no_specs) (λ x. Call (Declarator s Optional (after x.bracket)) (λ y.
+    Return (record { param = param (join before x.specs) y; name = y.name })))
+
+-- one parameter behind the others, and all of these in front of what is read here
+abbrev pub with_param : ParamsRead → ParamRead → ParamsRead
+with_param list p = record { params = list.params ++ p.param ∷ []; names = list.names ++ with_name p.name [] }
+
+abbrev pub behind_params : ParamsRead → ℕ → Outcome Lexeme ParamsRead → Outcome Lexeme ParamsRead
+behind_params list d (Got more e left) = Got (record { params = list.params ++ more.params; names = list.names ++ more.names }) (max d e) left
+behind_params list d (Bad deep left) = Bad deep left

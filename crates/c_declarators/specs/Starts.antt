@@ -1,0 +1,62 @@
+-- What may come next in a declarator, and what stands at its front, by tests of the code.
+use Rattle.std.specs.Prelude.{ℕ, Bool, true, false, ◌&&◌, ◌||◌, List, [], ◌∷◌, Option, Some, None}
+use Rattle.c_tree.specs.declared.words.AttrSpelling.TheVariants.{Brackets}
+use Rattle.c_tree.specs.declared.expressions.Spec.{Spec}
+use Rattle.c_tree.specs.declared.expressions.Spec.TheVariants as spec
+use Rattle.c_grammar.specs.declared.Sign.TheVariants as k
+use Rattle.grammar.specs.Parts.{Return, Call}
+use Rattle.c_grammar.specs.Lexemes.{Lexeme, is}
+use Rattle.c_grammar.specs.Rules.{Scope, Naming, Ordinary, Membered, Optional, Nameless, Bracket, Unknown, Barred, Opened, Reach, Home, TypeHome, DeclaratorRead, ParamsRead, Declarator, Params, ParamList, ClangWords, Attributes}
+use Rattle.c_grammar.specs.Expressions.{Reading, word}
+use Rattle.c_grammar.specs.Specifiers.{is_ordinary_name, attr}
+use Rattle.c_grammar.specs.Declarators.{is_free_name, takes_array, takes_params, function_of, absent, grouped, open_group}
+use Rattle.c_grammar.specs.Grammar.{starts_size}
+
+-- the place of the `[` that was read before
+abbrev pub opened_at : Bracket → Option ℕ
+opened_at (Opened p) = Some p
+opened_at _ = None
+
+-- a name that is declared
+abbrev pub starts_name : Scope → Naming → Bracket → Lexeme → Bool
+starts_name s Ordinary b t = is_ordinary_name t
+starts_name s Membered b t = is k.Name t
+starts_name s Optional Barred t = is_free_name s t
+starts_name s Optional b t = is_ordinary_name t
+starts_name s Nameless b t = false
+
+-- nothing may stand at the inmost
+abbrev pub may_lack : Naming → Bracket → Bool
+may_lack naming Barred = false
+may_lack Optional b = true
+may_lack Nameless b = true
+may_lack naming b = false
+
+-- an array or a function, behind what was read
+abbrev pub starts_step : Scope → Naming → Bracket → Option ℕ → Reach → Lexeme → Bool
+starts_step s naming b (Some p) reach t = starts_size s t
+starts_step s naming b None reach t = (is k.OpenBracket t && takes_array reach b) || (is k.OpenParen t && takes_params s naming reach)
+
+-- behind the parameters of a function, whose `(` stands at this place behind the declarator
+abbrev pub function_parts : Scope → DeclaratorRead → ℕ → ParamsRead → Reading DeclaratorRead
+function_parts s x p given = word k.CloseParen (λ c. Call (Attributes s) (λ attributes. Return (function_of x p given attributes)))
+
+-- behind their `(`
+abbrev pub params_parts : Scope → DeclaratorRead → ℕ → Reading DeclaratorRead
+params_parts s x p = Call (Params s) (λ given. function_parts s x p given)
+
+-- behind the `(` of a group that ends in these
+abbrev pub declarator_parts : Scope → Naming → Bracket → ℕ → Reading DeclaratorRead
+declarator_parts s naming b p = Call (Declarator s naming b) (λ x. word k.CloseParen (λ c. Return (grouped p x)))
+
+abbrev pub list_parts : Home → Scope → List Spec → ℕ → Reading DeclaratorRead
+list_parts home s before p = Call (ParamList home s before) (λ given. function_parts s (absent None) p given)
+
+abbrev pub attribute_parts : Scope → ℕ → ℕ → Reading DeclaratorRead
+attribute_parts s p b = Call ClangWords (λ words. list_parts TypeHome s (spec.Attribute (attr b Brackets words) ∷ []) p)
+
+-- behind the `(` of any group
+abbrev pub group_parts : Scope → Naming → ℕ → Reading DeclaratorRead
+group_parts s Optional p = open_group s Optional p
+group_parts s Nameless p = open_group s Nameless p
+group_parts s naming p = declarator_parts s naming Unknown p

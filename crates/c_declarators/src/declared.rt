@@ -1,0 +1,288 @@
+//! What a declarator tells beside its tree.
+
+ghost use Rattle.std.specs.Prelude.{◌≡◌, map, IfOk};
+ghost use Rattle.c_grammar.specs.Declarators.{named, absent, pointer_to, in_group, grouped, array_of, own_names, function_of};
+ghost use Rattle.c_declarators.specs.Named.{reach_of};
+
+use crate::params::parameters_of;
+use c_input::Seen;
+use c_tree::{Attr, Declarator, Expr, Param, PointerQualifier, Spec};
+use sqlite_items::{Boxed, Items};
+use std::alloc::{AllocError, Global};
+use std::marker::Model;
+
+/// Where specifiers stand.
+#[derive(Clone, Copy)]
+pub enum Home {
+    /// At file scope.
+    File,
+    Block,
+    /// In a structure.
+    Member,
+    /// In a parameter or a type name.
+    Type,
+    /// At the front of a parameter that no bracket may begin.
+    Barred,
+}
+
+/// What a declarator declares.
+#[derive(Clone, Copy)]
+pub enum Naming {
+    /// An ordinary name.
+    Ordinary,
+    /// A member.
+    Membered,
+    /// A parameter, which may lack its name.
+    Optional,
+    /// Nothing, as in a type name.
+    Nameless,
+}
+
+/// What is known of a `[` at the front of a declarator.
+#[derive(Clone, Copy)]
+pub enum Bracket {
+    /// Nothing.
+    Unknown,
+    /// None stands there.
+    Passed,
+    /// None stands there, and the declarator is not empty.
+    Barred,
+    /// The one at this place was read before.
+    Opened(u32),
+}
+
+/// How far a declarator was read.
+#[derive(Clone, Copy)]
+pub enum Reach {
+    Nothing,
+    /// Its name alone, perhaps in parentheses.
+    NameAlone,
+    /// Up to a parameter list with its attributes.
+    Called,
+    /// Up to something else.
+    More,
+}
+
+/// A declarator with its name, the names of the parameters in the list that makes its name a function, and the place
+/// of a `[` behind it whose array isn't read yet.
+#[derive(Drop)]
+pub struct Declared<'a> {
+    pub tree: Declarator,
+    pub reach: Reach,
+    pub name: Option<&'a [u8]>,
+    pub own: Items<&'a [u8]>,
+    pub bracket: Option<u32>,
+}
+
+impl<'a> Model for Declared<'a> {
+    ghost use Rattle.std.specs.Prelude.{map};
+    ghost use Rattle.c_grammar.specs.Rules.{DeclaratorRead};
+    ghost use Rattle.c_declarators.specs.Named.{reach_of, text_of};
+    ghost use Rattle.c_tree.specs.contracts.expressions.Declarator as trees;
+    ghost use Rattle.std.specs.Coded.{codes};
+
+    ghost Value = { DeclaratorRead };
+
+    ghost coded = { Prim.hlevel (codes, trees.the_row.coded) };
+
+    ghost view = { λ d. record { tree = d.tree; reach = reach_of d.reach; name = text_of d.name; own = map (λ text. text.now) d.own; bracket = d.bracket } };
+}
+
+impl Reach {
+    /// How far a declarator in parentheses was read.
+    fn in_group(self) -> Reach
+        ensures { reach_of result ≡ in_group (reach_of self) }
+    {
+        match self {
+            Reach::NameAlone => Reach::NameAlone,
+            Reach::Nothing => Reach::More,
+            Reach::Called => Reach::More,
+            Reach::More => Reach::More,
+        }
+    }
+}
+
+/// The names of the parameters in the list that makes the declared name a function.
+fn own_names<'a>(reach: Reach, names: Items<&'a [u8]>, before: Items<&'a [u8]>) -> Items<&'a [u8]>
+    ensures { map (λ text. text.now) result ≡ own_names (reach_of reach) (map (λ text. text.now) names.entry) (map (λ text. text.now) before.entry) }
+{
+    match reach {
+        Reach::NameAlone => names,
+        Reach::Nothing => before,
+        Reach::Called => before,
+        Reach::More => before,
+    }
+}
+
+impl<'a> Declared<'a> {
+    /// Nothing yet, and perhaps the place of a `[` that was read before.
+    pub fn absent(alloc: Global, bracket: Option<u32>) -> Declared<'a>
+        ensures { result ≡ absent bracket }
+    {
+        Declared {
+            tree: Declarator::Absent,
+            reach: Reach::Nothing,
+            name: None,
+            own: Items::new(alloc),
+            bracket,
+        }
+    }
+
+    /// A name.
+    pub fn named(alloc: Global, seen: &Seen<'a>) -> Declared<'a>
+        ensures { result ≡ named seen.now }
+    {
+        Declared {
+            tree: Declarator::Name(seen.span()),
+            reach: Reach::NameAlone,
+            name: Some(seen.text()),
+            own: Items::new(alloc),
+            bracket: None,
+        }
+    }
+
+    /// A pointer to what is declared so.
+    pub fn pointer_to(
+        alloc: Global,
+        place: u32,
+        qualifiers: Items<PointerQualifier>,
+        target: Declared<'a>,
+    ) -> Result<Declared<'a>, AllocError>
+        ensures { IfOk result (λ x. x ≡ pointer_to place qualifiers target.entry) }
+    {
+        Ok(Declared {
+            tree: Declarator::Pointer(place, qualifiers, Boxed::new(alloc, target.tree)?),
+            reach: Reach::More,
+            name: target.name,
+            own: target.own,
+            bracket: None,
+        })
+    }
+
+    /// What is declared so, in parentheses.
+    pub fn grouped(
+        alloc: Global,
+        place: u32,
+        inner: Declared<'a>,
+    ) -> Result<Declared<'a>, AllocError>
+        ensures { IfOk result (λ x. x ≡ grouped place inner.entry) }
+    {
+        Ok(Declared {
+            tree: Declarator::Parenthesised(place, Boxed::new(alloc, inner.tree)?),
+            reach: inner.reach.in_group(),
+            name: inner.name,
+            own: inner.own,
+            bracket: None,
+        })
+    }
+
+    /// An array of what is declared so, perhaps with its size.
+    pub fn array_of(
+        alloc: Global,
+        element: Declared<'a>,
+        place: u32,
+        size: Option<Boxed<Expr>>,
+    ) -> Result<Declared<'a>, AllocError>
+        ensures { IfOk result (λ x. x ≡ array_of element.entry place size) }
+    {
+        Ok(Declared {
+            tree: Declarator::Array(Boxed::new(alloc, element.tree)?, place, size),
+            reach: Reach::More,
+            name: element.name,
+            own: element.own,
+            bracket: None,
+        })
+    }
+
+    /// A function that gives what is declared so.
+    pub fn function_of(
+        alloc: Global,
+        given: Declared<'a>,
+        place: u32,
+        list: ParameterList<'a>,
+        attributes: Attributes,
+    ) -> Result<Declared<'a>, AllocError>
+        ensures { IfOk result (λ x. x ≡ function_of given.entry place list.entry attributes) }
+    {
+        Ok(Declared {
+            tree: Declarator::Function(
+                Boxed::new(alloc, given.tree)?,
+                place,
+                parameters_of(list.params),
+                attributes.attributes,
+            ),
+            reach: Reach::Called,
+            name: given.name,
+            own: own_names(given.reach, list.names, given.own),
+            bracket: attributes.bracket,
+        })
+    }
+
+    /// How far it was read.
+    pub fn reach(&self) -> Reach
+        ensures { reach_of result ≡ self.now.reach }
+    {
+        self.reach
+    }
+
+    /// The place of a `[` behind it whose array isn't read yet.
+    pub fn bracket(&self) -> Option<u32>
+        ensures { result ≡ self.now.bracket }
+    {
+        self.bracket
+    }
+}
+
+/// Specifiers, and the place of a `[` behind them that began none of them.
+#[derive(Drop)]
+pub struct Specifiers {
+    pub specs: Items<Spec>,
+    pub bracket: Option<u32>,
+}
+
+impl Model for Specifiers {
+    ghost use Rattle.c_grammar.specs.Rules.{SpecsRead};
+    ghost use Rattle.c_tree.specs.contracts.expressions.Spec as trees;
+    ghost use Rattle.std.specs.Coded.{codes};
+
+    ghost Value = { SpecsRead };
+
+    ghost coded = { Prim.hlevel (codes, trees.the_row.coded) };
+
+    ghost view = { λ s. record { specs = s.specs; bracket = s.bracket } };
+}
+
+/// Attributes behind a parameter list, and the place of a `[` behind them that began none of them.
+#[derive(Drop)]
+pub struct Attributes {
+    pub attributes: Items<Attr>,
+    pub bracket: Option<u32>,
+}
+
+impl Model for Attributes {
+    ghost use Rattle.c_grammar.specs.Rules.{AttributesRead};
+
+    ghost Value = { AttributesRead };
+
+    ghost view = { λ a. record { attributes = a.attributes; bracket = a.bracket } };
+}
+
+/// Parameters with the texts of their names.
+#[derive(Drop)]
+pub struct ParameterList<'a> {
+    pub params: Items<Param>,
+    pub names: Items<&'a [u8]>,
+}
+
+impl<'a> Model for ParameterList<'a> {
+    ghost use Rattle.std.specs.Prelude.{map};
+    ghost use Rattle.c_grammar.specs.Rules.{ParamsRead};
+    ghost use Rattle.c_tree.specs.contracts.expressions.Param as trees;
+    ghost use Rattle.std.specs.Coded.{codes};
+
+    ghost Value = { ParamsRead };
+
+    ghost coded = { Prim.hlevel (codes, trees.the_row.coded) };
+
+    ghost view = { λ p. record { params = p.params; names = map (λ text. text.now) p.names } };
+}
