@@ -1,0 +1,5 @@
+pub mod Named
+pub mod Nested
+pub mod Nodes
+pub mod Parts
+pub mod Climbing

@@ -1,0 +1,242 @@
+//! Conditional expressions, assignments and commas (C17 6.5.15 to 6.5.17).
+
+ghost use Rattle.std.specs.Prelude.{◌≡◌, ◌+◌, ◌*◌, ◌<◌, ◌-◌, IfOk};
+ghost use Rattle.c_grammar.specs.Rules.{Expression, Assignment, Conditional};
+ghost use Rattle.c_grammar.specs.Expressions.{assignment_operator};
+ghost use Rattle.c_grammar.specs.Trees.{place_of, is_conditional, is_unary};
+ghost use Rattle.c_input.specs.Input.{sees};
+ghost use Rattle.c_input.specs.Reads.{named, reads, joined, Says};
+ghost use Rattle.c_expressions.specs.Nodes.{assignment_node, asks, assigns, branches};
+ghost use Rattle.c_expressions.specs.Nested.{Nested};
+
+use crate::parser::Expressions;
+use crate::place::place_of;
+use crate::wanted::{Operators, Wanted};
+use c_grammar::Sign;
+use c_input::{Input, Limits, Read, Refusal};
+use c_tree::{AssignmentOperator, BinaryOperator, Expr, TypeName};
+use sqlite_items::Boxed;
+use std::alloc::{AllocError, Global};
+
+/// Whether this is a conditional expression.
+fn is_conditional(expression: &Expr) -> bool
+    ensures { result ≡ is_conditional expression.now }
+{
+    match expression {
+        Expr::Conditional(_, _, _, _) => true,
+        _ => false,
+    }
+}
+
+/// Whether this may stand on the left of an assignment.
+fn is_unary(expression: &Expr) -> bool
+    ensures { result ≡ is_unary expression.now }
+{
+    match expression {
+        Expr::Cast(_, _, _) => false,
+        Expr::Binary(_, _, _, _, _) => false,
+        Expr::Conditional(_, _, _, _) => false,
+        Expr::Assignment(_, _, _, _, _) => false,
+        _ => true,
+    }
+}
+
+/// Whether a `?` goes on behind this.
+#[tactic(auto, using(c_input::proofs::Steps::sees_none, c_input::proofs::Steps::sees_head))]
+fn asks(test: &Expr, input: &Input<'_>) -> bool
+    ensures { result ≡ sees (asks test.now) input.now.tokens }
+{
+    if input.is_done() {
+        return false;
+    }
+    input.peek().is(Sign::Question) && !is_conditional(test)
+}
+
+/// Whether an assignment operator goes on behind this.
+#[tactic(auto, using(c_input::proofs::Steps::sees_none, c_input::proofs::Steps::sees_head))]
+fn assigns(left: &Expr, input: &Input<'_>) -> bool
+    ensures { result ≡ sees (assigns left.now) input.now.tokens }
+{
+    if input.is_done() {
+        return false;
+    }
+    input.peek().is_among(&[
+        Sign::Equal,
+        Sign::StarEqual,
+        Sign::SlashEqual,
+        Sign::PercentEqual,
+        Sign::PlusEqual,
+        Sign::MinusEqual,
+        Sign::LeftShiftEqual,
+        Sign::RightShiftEqual,
+        Sign::AmpersandEqual,
+        Sign::CaretEqual,
+        Sign::BarEqual,
+    ]) && is_unary(left)
+}
+
+/// The assignment operator that a token is.
+fn assignment_of(sign: Sign) -> AssignmentOperator
+    ensures { result ≡ assignment_operator sign }
+{
+    match sign {
+        Sign::StarEqual => AssignmentOperator::Multiply,
+        Sign::SlashEqual => AssignmentOperator::Divide,
+        Sign::PercentEqual => AssignmentOperator::Remainder,
+        Sign::PlusEqual => AssignmentOperator::Add,
+        Sign::MinusEqual => AssignmentOperator::Subtract,
+        Sign::LeftShiftEqual => AssignmentOperator::LeftShift,
+        Sign::RightShiftEqual => AssignmentOperator::RightShift,
+        Sign::AmpersandEqual => AssignmentOperator::And,
+        Sign::CaretEqual => AssignmentOperator::ExclusiveOr,
+        Sign::BarEqual => AssignmentOperator::Or,
+        _ => AssignmentOperator::Plain,
+    }
+}
+
+/// The node of a condition and its branches.
+fn conditional_tree(alloc: Global, test: Expr, then: Expr, other: Expr) -> Result<Expr, AllocError>
+    ensures { IfOk result (λ tree. tree ≡ Expr.Conditional (place_of test) test then other) }
+{
+    let place = place_of(&test);
+    let test = Boxed::new(alloc, test)?;
+    let then = Boxed::new(alloc, then)?;
+    Ok(Expr::Conditional(place, test, then, Boxed::new(alloc, other)?))
+}
+
+/// The node of an assignment.
+fn assignment_tree(
+    alloc: Global,
+    left: Expr,
+    operator: AssignmentOperator,
+    place: u32,
+    right: Expr,
+) -> Result<Expr, AllocError>
+    ensures { IfOk result (λ tree. tree ≡ Expr.Assignment (place_of left) left operator place right) }
+{
+    let start = place_of(&left);
+    let left = Boxed::new(alloc, left)?;
+    Ok(Expr::Assignment(start, left, operator, place, Boxed::new(alloc, right)?))
+}
+
+impl<
+    E: Fn(Global, Limits, Wanted, &mut Input<'_>) -> Result<Read<Expr>, Refusal>,
+    T: Fn(Global, Limits, &mut Input<'_>) -> Result<Read<TypeName>, Refusal>,
+> Expressions<E, T> {
+    /// An expression: assignments with commas between them.
+    #[tactic(auto, using(crate::proofs::Chains::expression_begins, crate::proofs::Chains::expression_ends, crate::proofs::Chains::expression_full, crate::proofs::Chains::expression_goes, c_input::proofs::Steps::within, c_input::proofs::Steps::sees_less))]
+    pub fn expression(&self, limits: Limits, input: &mut Input<'_>) -> Result<Read<Expr>, Refusal>
+        requires nested { Nested (2 * (limits.opens + limits.room)) (E.pre self.now.expression) (E.post self.now.expression) (T.pre self.now.type_name) (T.post self.now.type_name) }
+        ensures reads { Says (named limits.room (Expression input.old.scope) input.old.tokens) result input.new.tokens }
+        ensures kept { IfOk result (λ read. input.new.scope ≡ input.old.scope) }
+    {
+        let mut left = self.assignment(limits, input)?;
+        'commas: loop {
+            if !input.is(Sign::Comma) {
+                return Ok(left);
+            }
+            if left.depth >= limits.room {
+                return Err(Refusal::Refused(true));
+            }
+            let comma = input.take();
+            let operator = BinaryOperator::Comma;
+            left = self.joined(
+                limits,
+                left,
+                operator,
+                comma.place(),
+                Wanted::Assignment,
+                input,
+            )?;
+        }
+    }
+
+    /// An assignment, or a conditional expression without one.
+    #[tactic(auto, using(crate::proofs::Chains::assignment_begins, crate::proofs::Chains::assignment_ends, crate::proofs::Chains::assignment_full, crate::proofs::Chains::assignment_goes))]
+    pub fn assignment(&self, limits: Limits, input: &mut Input<'_>) -> Result<Read<Expr>, Refusal>
+        requires nested { Nested (2 * (limits.opens + limits.room)) (E.pre self.now.expression) (E.post self.now.expression) (T.pre self.now.type_name) (T.post self.now.type_name) }
+        ensures reads { Says (named limits.room (Assignment input.old.scope) input.old.tokens) result input.new.tokens }
+        ensures kept { IfOk result (λ read. input.new.scope ≡ input.old.scope) }
+    {
+        let left = self.conditional(limits, input)?;
+        if !assigns(&left.value, input) {
+            return Ok(left);
+        }
+        if left.depth >= limits.room {
+            return Err(Refusal::Refused(true));
+        }
+        let seen = input.take();
+        self.assigned(
+            limits,
+            left,
+            assignment_of(seen.sign()),
+            seen.place(),
+            input,
+        )
+    }
+
+    /// The right side of an assignment, and the node of both.
+    #[tactic(auto, using(c_input::proofs::Steps::within))]
+    fn assigned(
+        &self,
+        limits: Limits,
+        left: Read<Expr>,
+        operator: AssignmentOperator,
+        place: u32,
+        input: &mut Input<'_>,
+    ) -> Result<Read<Expr>, Refusal>
+        requires nested { Nested (2 * (limits.opens + limits.room)) (E.pre self.now.expression) (E.post self.now.expression) (T.pre self.now.type_name) (T.post self.now.type_name) }
+        requires room { left.depth < limits.room }
+        ensures reads { Says (assignment_node left.value left.depth operator place (named (limits.room - 1) (Assignment input.old.scope) input.old.tokens)) result input.new.tokens }
+        ensures kept { IfOk result (λ read. input.new.scope ≡ input.old.scope) }
+    {
+        let right = self.expression_inside(limits, Wanted::Assignment, input)?;
+        Ok(Read {
+            value: assignment_tree(self.alloc, left.value, operator, place, right.value)?,
+            depth: left.depth.max(right.depth) + 1,
+        })
+    }
+
+    /// A conditional expression, or binary operations without a `?` behind them.
+    #[tactic(auto, using(crate::proofs::Chains::conditional_begins, crate::proofs::Chains::conditional_ends, crate::proofs::Chains::conditional_full, crate::proofs::Chains::conditional_goes))]
+    pub fn conditional(&self, limits: Limits, input: &mut Input<'_>) -> Result<Read<Expr>, Refusal>
+        requires nested { Nested (2 * (limits.opens + limits.room)) (E.pre self.now.expression) (E.post self.now.expression) (T.pre self.now.type_name) (T.post self.now.type_name) }
+        ensures reads { Says (named limits.room (Conditional input.old.scope) input.old.tokens) result input.new.tokens }
+        ensures kept { IfOk result (λ read. input.new.scope ≡ input.old.scope) }
+    {
+        let test = self.binary(limits, Operators::OrOr, input)?;
+        if !asks(&test.value, input) {
+            return Ok(test);
+        }
+        if test.depth >= limits.room {
+            return Err(Refusal::Refused(true));
+        }
+        let _question = input.take();
+        self.branches(limits, test, input)
+    }
+
+    /// The branches of a condition, and the node of all.
+    #[tactic(auto, using(c_input::proofs::Steps::within))]
+    fn branches(
+        &self,
+        limits: Limits,
+        test: Read<Expr>,
+        input: &mut Input<'_>,
+    ) -> Result<Read<Expr>, Refusal>
+        requires nested { Nested (2 * (limits.opens + limits.room)) (E.pre self.now.expression) (E.post self.now.expression) (T.pre self.now.type_name) (T.post self.now.type_name) }
+        requires room { test.depth < limits.room }
+        ensures reads { Says (joined test.depth (reads (named (limits.room - 1)) (branches input.old.scope test.value) input.old.tokens)) result input.new.tokens }
+        ensures kept { IfOk result (λ read. input.new.scope ≡ input.old.scope) }
+    {
+        let then = self.expression_inside(limits, Wanted::Expression, input)?;
+        if !input.is(Sign::Colon) {
+            return Err(Refusal::Refused(false));
+        }
+        let _colon = input.take();
+        let other = self.expression_inside(limits, Wanted::Conditional, input)?;
+        Ok(Read {
+            value: conditional_tree(self.alloc, test.value, then.value, other.value)?,
+            depth: test.depth.max(then.depth.max(other.depth)) + 1,
+        })
+    }
+}

@@ -1,0 +1,226 @@
+//! Postfix expressions (C17 6.5.2).
+
+ghost use Rattle.std.specs.Prelude.{◌≡◌, ◌+◌, ◌*◌, ◌<◌, ◌≤◌, ◌-◌, length, IfOk, IfErr};
+ghost use Rattle.c_grammar.specs.Trees.{place_of};
+ghost use Rattle.c_grammar.specs.Rules.{Arguments, Postfix};
+ghost use Rattle.c_input.specs.Reads.{named, reads, joined, Says};
+ghost use Rattle.c_expressions.specs.Named.{front_of};
+ghost use Rattle.c_expressions.specs.Parts.{goes_on, index_rest, call_rest, access_rest, step_reads};
+ghost use Rattle.c_expressions.specs.Nested.{Nested};
+
+use crate::parser::Expressions;
+use crate::place::{is_cast, place_of};
+use crate::primary::begins_expression;
+use crate::wanted::{Front, Wanted};
+use c_grammar::Sign;
+use c_input::{Input, Limits, Read, Refusal};
+use c_tree::{AccessOperator, Expr, StepOperator, TypeName};
+use sqlite_items::{Boxed, Items};
+use std::alloc::Global;
+
+/// Whether a step of a postfix expression stands here, behind this expression.
+#[tactic(auto, unfolding(crate::specs::Parts::goes_on))]
+fn goes_on(left: &Expr, input: &Input<'_>) -> bool
+    ensures { result ≡ goes_on left.now input.now.tokens }
+{
+    input.is_among(&[
+        Sign::OpenBracket,
+        Sign::OpenParen,
+        Sign::Dot,
+        Sign::Arrow,
+        Sign::Increment,
+        Sign::Decrement,
+    ]) && !is_cast(left)
+}
+
+/// The member that is accessed behind `.` or `->`.
+#[tactic(auto, using(c_input::proofs::Steps::max_zero, c_input::proofs::Steps::sees_less))]
+fn access(
+    alloc: Global,
+    left: Read<Expr>,
+    operator: AccessOperator,
+    input: &mut Input<'_>,
+) -> Result<Read<Expr>, Refusal>
+    requires { left.depth < u32.MAX }
+    ensures reads { Says (joined left.depth (reads (named 0) (access_rest left.value operator) input.old.tokens)) result input.new.tokens }
+    ensures kept { IfOk result (λ read. input.new.scope ≡ input.old.scope) }
+    ensures depth { IfOk result (λ read. read.depth ≡ left.depth + 1) }
+    ensures shorter { IfOk result (λ read. length input.new.tokens ≤ length input.old.tokens) }
+{
+    if !input.is(Sign::Name) {
+        return Err(Refusal::Refused(false));
+    }
+    let member = input.take().span();
+    let place = place_of(&left.value);
+    Ok(Read {
+        value: Expr::Access(place, Boxed::new(alloc, left.value)?, operator, member),
+        depth: left.depth + 1,
+    })
+}
+
+/// A `++` or `--` behind what was read.
+fn stepped(alloc: Global, left: Read<Expr>, operator: StepOperator) -> Result<Read<Expr>, Refusal>
+    requires { left.depth < u32.MAX }
+    ensures value { IfOk result (λ read. read ≡ record { value = Expr.Step (place_of left.value) left.value operator; depth = left.depth + 1 }) }
+    ensures memory { IfErr result (λ refusal. refusal ≡ Refusal.NoMemory) }
+{
+    let place = place_of(&left.value);
+    Ok(Read {
+        value: Expr::Step(place, Boxed::new(alloc, left.value)?, operator),
+        depth: left.depth + 1,
+    })
+}
+
+impl<
+    E: Fn(Global, Limits, Wanted, &mut Input<'_>) -> Result<Read<Expr>, Refusal>,
+    T: Fn(Global, Limits, &mut Input<'_>) -> Result<Read<TypeName>, Refusal>,
+> Expressions<E, T> {
+    /// The arguments of a call, perhaps none.
+    #[tactic(auto, using(crate::proofs::Postfixes::no_arguments, crate::proofs::Postfixes::arguments_begin, crate::proofs::Postfixes::arguments_bad, crate::proofs::Postfixes::arguments_more, crate::proofs::Postfixes::arguments_end, c_input::proofs::Steps::sees_less, c_input::proofs::Steps::shorter))]
+    fn arguments(&self, limits: Limits, input: &mut Input<'_>) -> Result<Read<Items<Expr>>, Refusal>
+        requires nested { Nested (2 * (limits.opens + limits.room)) (E.pre self.now.expression) (E.post self.now.expression) (T.pre self.now.type_name) (T.post self.now.type_name) }
+        requires room { 0 < limits.room }
+        ensures reads { Says (named (limits.room - 1) (Arguments input.old.scope) input.old.tokens) result input.new.tokens }
+        ensures kept { IfOk result (λ read. input.new.scope ≡ input.old.scope) }
+    {
+        let mut given = Items::new(self.alloc);
+        let mut depth = 0;
+        if !begins_expression(input) {
+            return Ok(Read {
+                value: given,
+                depth,
+            });
+        }
+        'each: loop {
+            let argument = self.expression_inside(limits, Wanted::Assignment, input)?;
+            depth = depth.max(argument.depth);
+            given.push(argument.value)?;
+            if !input.is(Sign::Comma) {
+                return Ok(Read {
+                    value: given,
+                    depth,
+                });
+            }
+            let _comma = input.take();
+        }
+    }
+
+    /// The index in brackets, up to its end.
+    #[tactic(auto, using(c_input::proofs::Steps::within, c_input::proofs::Steps::shorter, c_input::proofs::Steps::sees_less, c_input::proofs::Steps::max_zero))]
+    fn index(
+        &self,
+        limits: Limits,
+        left: Read<Expr>,
+        input: &mut Input<'_>,
+    ) -> Result<Read<Expr>, Refusal>
+        requires nested { Nested (2 * (limits.opens + limits.room)) (E.pre self.now.expression) (E.post self.now.expression) (T.pre self.now.type_name) (T.post self.now.type_name) }
+        requires room { left.depth < limits.room }
+        ensures reads { Says (joined left.depth (reads (named (limits.room - 1)) (index_rest input.old.scope left.value) input.old.tokens)) result input.new.tokens }
+        ensures kept { IfOk result (λ read. input.new.scope ≡ input.old.scope) }
+        ensures within { IfOk result (λ read. read.depth ≤ limits.room) }
+        ensures shorter { IfOk result (λ read. length input.new.tokens ≤ length input.old.tokens) }
+    {
+        let at = self.expression_inside(limits, Wanted::Expression, input)?;
+        if !input.is(Sign::CloseBracket) {
+            return Err(Refusal::Refused(false));
+        }
+        let _closed = input.take();
+        let place = place_of(&left.value);
+        let array = Boxed::new(self.alloc, left.value)?;
+        Ok(Read {
+            value: Expr::Index(place, array, Boxed::new(self.alloc, at.value)?),
+            depth: left.depth.max(at.depth) + 1,
+        })
+    }
+
+    /// The arguments in parentheses, up to their end.
+    #[tactic(auto, using(c_input::proofs::Steps::within, c_input::proofs::Steps::shorter, c_input::proofs::Steps::sees_less, c_input::proofs::Steps::max_zero))]
+    fn call(
+        &self,
+        limits: Limits,
+        left: Read<Expr>,
+        input: &mut Input<'_>,
+    ) -> Result<Read<Expr>, Refusal>
+        requires nested { Nested (2 * (limits.opens + limits.room)) (E.pre self.now.expression) (E.post self.now.expression) (T.pre self.now.type_name) (T.post self.now.type_name) }
+        requires room { left.depth < limits.room }
+        ensures reads { Says (joined left.depth (reads (named (limits.room - 1)) (call_rest input.old.scope left.value) input.old.tokens)) result input.new.tokens }
+        ensures kept { IfOk result (λ read. input.new.scope ≡ input.old.scope) }
+        ensures within { IfOk result (λ read. read.depth ≤ limits.room) }
+        ensures shorter { IfOk result (λ read. length input.new.tokens ≤ length input.old.tokens) }
+    {
+        let given = self.arguments(limits, input)?;
+        if !input.is(Sign::CloseParen) {
+            return Err(Refusal::Refused(false));
+        }
+        let _closed = input.take();
+        let place = place_of(&left.value);
+        Ok(Read {
+            value: Expr::Call(place, Boxed::new(self.alloc, left.value)?, given.value),
+            depth: left.depth.max(given.depth) + 1,
+        })
+    }
+
+    /// One step behind what was read, which is no cast.
+    #[tactic(auto, using(c_input::proofs::Steps::sees_less, c_input::proofs::Steps::max_zero))]
+    fn step(
+        &self,
+        limits: Limits,
+        left: Read<Expr>,
+        input: &mut Input<'_>,
+    ) -> Result<Read<Expr>, Refusal>
+        requires nested { Nested (2 * (limits.opens + limits.room)) (E.pre self.now.expression) (E.post self.now.expression) (T.pre self.now.type_name) (T.post self.now.type_name) }
+        requires room { left.depth < limits.room }
+        ensures reads { Says (joined left.depth (step_reads (limits.room - 1) input.old.scope left.value input.old.tokens)) result input.new.tokens }
+        ensures kept { IfOk result (λ read. input.new.scope ≡ input.old.scope) }
+        ensures within { IfOk result (λ read. read.depth ≤ limits.room) }
+        ensures shorter { IfOk result (λ read. length input.new.tokens < length input.old.tokens) }
+    {
+        if input.is(Sign::OpenBracket) {
+            let _opened = input.take();
+            return self.index(limits, left, input);
+        }
+        if input.is(Sign::OpenParen) {
+            let _opened = input.take();
+            return self.call(limits, left, input);
+        }
+        if input.is(Sign::Dot) {
+            let _dot = input.take();
+            return access(self.alloc, left, AccessOperator::Dot, input);
+        }
+        if input.is(Sign::Arrow) {
+            let _arrow = input.take();
+            return access(self.alloc, left, AccessOperator::Arrow, input);
+        }
+        if input.is(Sign::Increment) {
+            let _operator = input.take();
+            return stepped(self.alloc, left, StepOperator::Increment);
+        }
+        if !input.is(Sign::Decrement) {
+            return Err(Refusal::Refused(false));
+        }
+        let _operator = input.take();
+        stepped(self.alloc, left, StepOperator::Decrement)
+    }
+
+    /// A postfix expression, which is a primary one with steps behind it, or a cast.
+    #[tactic(auto, using(crate::proofs::Postfixes::postfix_rule, crate::proofs::Postfixes::postfix_ends, crate::proofs::Postfixes::postfix_full, crate::proofs::Postfixes::postfix_goes, c_input::proofs::Steps::within))]
+    pub fn postfix(
+        &self,
+        limits: Limits,
+        front: Front,
+        input: &mut Input<'_>,
+    ) -> Result<Read<Expr>, Refusal>
+        requires nested { Nested (2 * (limits.opens + limits.room)) (E.pre self.now.expression) (E.post self.now.expression) (T.pre self.now.type_name) (T.post self.now.type_name) }
+        ensures reads { Says (named limits.room (Postfix (front_of front) input.old.scope) input.old.tokens) result input.new.tokens }
+        ensures kept { IfOk result (λ read. input.new.scope ≡ input.old.scope) }
+    {
+        let mut left = self.primary(limits, front, input)?;
+        'each: while goes_on(&left.value, input) {
+            if left.depth >= limits.room {
+                return Err(Refusal::Refused(true));
+            }
+            left = self.step(limits, left, input)?;
+        }
+        Ok(left)
+    }
+}

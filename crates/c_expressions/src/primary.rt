@@ -1,0 +1,275 @@
+//! Primary expressions (C17 6.5.1), and casts (6.5.4).
+
+ghost use Rattle.std.specs.Prelude.{◌≡◌, ◌+◌, ◌*◌, ◌<◌, ◌-◌, IfOk, IfErr};
+ghost use Rattle.grammar.specs.Parser.{Got, begins, one_more};
+ghost use Rattle.c_grammar.specs.Rules.{UnaryFront, Primary, Texts, TypeHome};
+ghost use Rattle.c_grammar.specs.Specifiers.{no_specs, is_spec_word};
+ghost use Rattle.c_grammar.specs.Expressions.{is_plain_name, bare_primary, primary, inside, cast_rest};
+ghost use Rattle.c_grammar.specs.Grammar.{c_hints, starts_expression, starts_specs};
+ghost use Rattle.c_input.specs.Input.{sees};
+ghost use Rattle.c_input.specs.Reads.{named, reads, Says};
+ghost use Rattle.c_expressions.specs.Named.{front_of};
+ghost use Rattle.c_expressions.specs.Parts.{bare_reads, opened_reads};
+ghost use Rattle.c_expressions.specs.Nested.{Nested};
+
+use crate::parser::Expressions;
+use crate::wanted::{Front, Wanted};
+use c_grammar::Sign;
+use c_input::{Input, Limits, Read, Refusal};
+use c_tree::{Expr, Span, TypeName};
+use sqlite_items::{Boxed, Items};
+use std::alloc::Global;
+
+/// Whether a name that is no typedef name stands here.
+#[tactic(auto, using(c_input::proofs::Steps::sees_none, c_input::proofs::Steps::sees_head))]
+fn is_plain_name(input: &Input<'_>) -> bool
+    ensures { result ≡ sees (is_plain_name input.now.scope) input.now.tokens }
+{
+    if input.is_done() {
+        return false;
+    }
+    let seen = input.peek();
+    seen.is(Sign::Name) && !input.is_type(seen.text())
+}
+
+/// Whether a primary expression without a parenthesis begins here.
+#[tactic(auto, using(c_input::proofs::Steps::sees_none, c_input::proofs::Steps::sees_head))]
+fn begins_bare(input: &Input<'_>) -> bool
+    ensures { result ≡ sees (begins c_hints (bare_primary input.now.scope)) input.now.tokens }
+{
+    if input.is_done() {
+        return false;
+    }
+    let seen = input.peek();
+    (seen.is(Sign::Name) && !input.is_type(seen.text()))
+        || seen.is(Sign::Number)
+        || seen.is(Sign::Character)
+        || seen.is(Sign::Text)
+}
+
+/// Whether an expression begins here.
+#[tactic(auto, using(c_input::proofs::Steps::sees_none, c_input::proofs::Steps::sees_head))]
+pub(crate) fn begins_expression(input: &Input<'_>) -> bool
+    ensures { result ≡ sees (starts_expression input.now.scope) input.now.tokens }
+{
+    if input.is_done() {
+        return false;
+    }
+    let seen = input.peek();
+    seen.is_among(&[
+        Sign::Increment,
+        Sign::Decrement,
+        Sign::Sizeof,
+        Sign::Ampersand,
+        Sign::Star,
+        Sign::Plus,
+        Sign::Minus,
+        Sign::Tilde,
+        Sign::Exclamation,
+    ]) || seen.is(Sign::OpenParen)
+        || seen.is_among(&[Sign::Number, Sign::Character, Sign::Text])
+        || (seen.is(Sign::Name) && !input.is_type(seen.text()))
+}
+
+/// Whether a specifier of one word that may stand in a type name begins here.
+#[tactic(auto, using(c_input::proofs::Steps::sees_none, c_input::proofs::Steps::sees_head))]
+fn begins_spec_word(input: &Input<'_>) -> bool
+    ensures { result ≡ sees (is_spec_word TypeHome input.now.scope no_specs) input.now.tokens }
+{
+    if input.is_done() {
+        return false;
+    }
+    let seen = input.peek();
+    (seen.is_among(&[Sign::Inline, Sign::NoReturn]) && !input.is_in_block())
+        || seen.is_among(&[Sign::Const, Sign::Volatile, Sign::Restrict])
+        || seen.is_among(&[
+            Sign::Void,
+            Sign::Char,
+            Sign::Int,
+            Sign::Signed,
+            Sign::Unsigned,
+        ])
+        || (seen.is(Sign::Name) && input.is_type(seen.text()))
+}
+
+/// Whether a type name begins here.
+#[tactic(auto, using(c_input::proofs::Steps::sees_none, c_input::proofs::Steps::sees_head))]
+pub(crate) fn begins_type_name(input: &Input<'_>) -> bool
+    ensures { result ≡ sees (starts_specs TypeHome input.now.scope no_specs) input.now.tokens }
+{
+    if input.is_done() {
+        return false;
+    }
+    let seen = input.peek();
+    begins_spec_word(input)
+        || seen.is(Sign::Struct)
+        || seen.is(Sign::Enum)
+        || seen.is(Sign::Attribute)
+        || seen.is(Sign::OpenBracket)
+}
+
+/// Whether a primary expression that may be in a parenthesis begins here.
+#[tactic(auto, using(c_input::proofs::Steps::sees_none, c_input::proofs::Steps::sees_head))]
+fn begins_unary(input: &Input<'_>) -> bool
+    ensures { result ≡ sees (begins c_hints (primary UnaryFront input.now.scope)) input.now.tokens }
+{
+    begins_bare(input) || input.is(Sign::OpenParen)
+}
+
+/// Whether a primary expression begins here.
+#[tactic(auto, using(crate::proofs::Primaries::begins_inside))]
+fn begins_primary(front: Front, input: &Input<'_>) -> bool
+    ensures { result ≡ sees (begins c_hints (primary (front_of front) input.now.scope)) input.now.tokens }
+{
+    match front {
+        Front::Cast => begins_unary(input),
+        Front::Unary => begins_unary(input),
+        Front::Bare => begins_bare(input),
+        Front::Opened(_) => begins_expression(input),
+    }
+}
+
+/// Adjacent texts, perhaps none.
+#[tactic(auto, using(crate::proofs::Primaries::texts_begin, crate::proofs::Primaries::texts_more, crate::proofs::Primaries::texts_end, c_input::proofs::Steps::sees_less))]
+fn texts(alloc: Global, input: &mut Input<'_>) -> Result<Items<Span>, Refusal>
+    ensures reads { IfOk result (λ spans. named 0 Texts input.old.tokens ≡ Got spans 0 input.new.tokens) }
+    ensures memory { IfErr result (λ refusal. refusal ≡ Refusal.NoMemory) }
+    ensures kept { IfOk result (λ spans. input.new.scope ≡ input.old.scope) }
+{
+    let mut spans = Items::new(alloc);
+    'each: while input.is(Sign::Text) {
+        spans.push(input.take().span())?;
+    }
+    Ok(spans)
+}
+
+/// An expression with no node inside it.
+fn leaf(value: Expr) -> Read<Expr>
+    ensures { result ≡ record { value = value; depth = 1 } }
+{
+    Read { value, depth: 1 }
+}
+
+/// A primary expression without a parenthesis.
+#[tactic(auto, using(crate::proofs::Primaries::text_read), unfolding(crate::specs::Parts::bare_reads))]
+fn bare(alloc: Global, input: &mut Input<'_>) -> Result<Read<Expr>, Refusal>
+    ensures reads { Says (one_more (bare_reads input.old.scope input.old.tokens)) result input.new.tokens }
+    ensures kept { IfOk result (λ read. input.new.scope ≡ input.old.scope) }
+{
+    if is_plain_name(input) {
+        return Ok(leaf(Expr::Name(input.take().span())));
+    }
+    if input.is(Sign::Number) {
+        return Ok(leaf(Expr::Number(input.take().span())));
+    }
+    if input.is(Sign::Character) {
+        return Ok(leaf(Expr::Character(input.take().span())));
+    }
+    if !input.is(Sign::Text) {
+        return Err(Refusal::Refused(false));
+    }
+    Ok(leaf(Expr::Text(texts(alloc, input)?)))
+}
+
+impl<
+    E: Fn(Global, Limits, Wanted, &mut Input<'_>) -> Result<Read<Expr>, Refusal>,
+    T: Fn(Global, Limits, &mut Input<'_>) -> Result<Read<TypeName>, Refusal>,
+> Expressions<E, T> {
+    /// The expression in a parenthesis that was opened at this place, up to its end.
+    #[tactic(auto, using(c_input::proofs::Steps::within))]
+    fn inside(
+        &self,
+        limits: Limits,
+        place: u32,
+        input: &mut Input<'_>,
+    ) -> Result<Read<Expr>, Refusal>
+        requires nested { Nested (2 * (limits.opens + limits.room)) (E.pre self.now.expression) (E.post self.now.expression) (T.pre self.now.type_name) (T.post self.now.type_name) }
+        requires room { 0 < limits.room }
+        ensures reads { Says (one_more (reads (named (limits.room - 1)) (inside input.old.scope place) input.old.tokens)) result input.new.tokens }
+        ensures kept { IfOk result (λ read. input.new.scope ≡ input.old.scope) }
+    {
+        let inner = self.expression_inside(limits, Wanted::Expression, input)?;
+        if !input.is(Sign::CloseParen) {
+            return Err(Refusal::Refused(false));
+        }
+        let _closed = input.take();
+        Ok(Read {
+            value: Expr::Parenthesised(place, Boxed::new(self.alloc, inner.value)?),
+            depth: inner.depth + 1,
+        })
+    }
+
+    /// A cast whose parenthesis was opened at this place.
+    #[tactic(auto, using(c_input::proofs::Steps::within))]
+    fn cast(&self, limits: Limits, place: u32, input: &mut Input<'_>) -> Result<Read<Expr>, Refusal>
+        requires nested { Nested (2 * (limits.opens + limits.room)) (E.pre self.now.expression) (E.post self.now.expression) (T.pre self.now.type_name) (T.post self.now.type_name) }
+        requires room { 0 < limits.room }
+        ensures reads { Says (one_more (reads (named (limits.room - 1)) (cast_rest input.old.scope place) input.old.tokens)) result input.new.tokens }
+        ensures kept { IfOk result (λ read. input.new.scope ≡ input.old.scope) }
+    {
+        let name = self.type_name_inside(limits, input)?;
+        if !input.is(Sign::CloseParen) {
+            return Err(Refusal::Refused(false));
+        }
+        let _closed = input.take();
+        let inner = self.expression_inside(limits, Wanted::Cast, input)?;
+        Ok(Read {
+            value: Expr::Cast(place, name.value, Boxed::new(self.alloc, inner.value)?),
+            depth: name.depth.max(inner.depth) + 1,
+        })
+    }
+
+    /// What stands behind a parenthesis that was opened at this place, up to its end: an expression, or a cast.
+    fn opened(
+        &self,
+        limits: Limits,
+        place: u32,
+        input: &mut Input<'_>,
+    ) -> Result<Read<Expr>, Refusal>
+        requires nested { Nested (2 * (limits.opens + limits.room)) (E.pre self.now.expression) (E.post self.now.expression) (T.pre self.now.type_name) (T.post self.now.type_name) }
+        requires room { 0 < limits.room }
+        ensures reads { Says (one_more (opened_reads (limits.room - 1) input.old.scope place input.old.tokens)) result input.new.tokens }
+        ensures kept { IfOk result (λ read. input.new.scope ≡ input.old.scope) }
+    {
+        if begins_type_name(input) {
+            self.cast(limits, place, input)
+        } else {
+            self.inside(limits, place, input)
+        }
+    }
+
+    /// A primary expression, or a cast.
+    #[tactic(auto, using(crate::proofs::Primaries::primary_rule, crate::proofs::Primaries::no_primary))]
+    pub fn primary(
+        &self,
+        limits: Limits,
+        front: Front,
+        input: &mut Input<'_>,
+    ) -> Result<Read<Expr>, Refusal>
+        requires nested { Nested (2 * (limits.opens + limits.room)) (E.pre self.now.expression) (E.post self.now.expression) (T.pre self.now.type_name) (T.post self.now.type_name) }
+        ensures reads { Says (named limits.room (Primary (front_of front) input.old.scope) input.old.tokens) result input.new.tokens }
+        ensures kept { IfOk result (λ read. input.new.scope ≡ input.old.scope) }
+    {
+        if limits.room == 0 {
+            return Err(Refusal::Refused(begins_primary(front, input)));
+        }
+        match front {
+            Front::Bare => bare(self.alloc, input),
+            Front::Opened(place) => self.inside(limits, place, input),
+            Front::Unary => {
+                if !input.is(Sign::OpenParen) {
+                    return bare(self.alloc, input);
+                }
+                let place = input.take().place();
+                self.inside(limits, place, input)
+            }
+            Front::Cast => {
+                if !input.is(Sign::OpenParen) {
+                    return bare(self.alloc, input);
+                }
+                let place = input.take().place();
+                self.opened(limits, place, input)
+            }
+        }
+    }
+}
