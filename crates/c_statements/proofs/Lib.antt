@@ -1,0 +1,10 @@
+pub mod Blocked
+pub mod Declares
+pub mod Fors
+pub mod Definitions
+pub mod Gathered
+pub mod Initials
+pub mod Phrases
+pub mod Picks
+pub mod Scopes
+pub mod Shapes

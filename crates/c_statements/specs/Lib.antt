@@ -1,0 +1,4 @@
+pub mod Nested
+pub mod Scoped
+pub mod Forms
+pub mod Defined

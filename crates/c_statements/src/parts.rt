@@ -1,0 +1,112 @@
+//! Expressions in statements.
+
+ghost use Rattle.std.specs.Prelude.{◌≡◌, IfOk};
+ghost use Rattle.c_grammar.specs.Rules.{MaybeExpression};
+ghost use Rattle.c_grammar.specs.Trees.{place_of, first_place};
+ghost use Rattle.c_input.specs.Reads.{named, reads, Says};
+ghost use Rattle.c_statements.specs.Forms.{condition, expression_until};
+
+use crate::begins::begins_expression;
+use c_expressions::Wanted;
+use c_grammar::Sign;
+use c_input::{Input, Limits, Read, Refusal};
+use c_nested::expression;
+use c_tree::{Expr, Span};
+use std::alloc::Global;
+
+/// The place of adjacent strings.
+fn first_place(spans: &[Span]) -> u32
+    ensures { result ≡ first_place spans.now }
+{
+    match spans.split_first() {
+        None => 0,
+        Some((span, _)) => span.start,
+    }
+}
+
+/// The place of an expression, that of its first token.
+pub fn place_of(expr: &Expr) -> u32
+    ensures { result ≡ place_of expr.now }
+{
+    match expr {
+        Expr::Name(span) => span.start,
+        Expr::Number(span) => span.start,
+        Expr::Character(span) => span.start,
+        Expr::Text(spans) => first_place(spans.as_slice()),
+        Expr::Parenthesised(place, _) => *place,
+        Expr::Index(place, _, _) => *place,
+        Expr::Call(place, _, _) => *place,
+        Expr::Access(place, _, _, _) => *place,
+        Expr::Step(place, _, _) => *place,
+        Expr::Unary(place, _, _) => *place,
+        Expr::SizeofType(place, _) => *place,
+        Expr::Cast(place, _, _) => *place,
+        Expr::Binary(place, _, _, _, _) => *place,
+        Expr::Conditional(place, _, _, _) => *place,
+        Expr::Assignment(place, _, _, _, _) => *place,
+    }
+}
+
+/// An expression, or none.
+#[tactic(auto, using(crate::proofs::Phrases::maybe_rule))]
+pub fn maybe_expression(
+    alloc: Global,
+    limits: Limits,
+    input: &mut Input<'_>,
+) -> Result<Read<Option<Expr>>, Refusal>
+    ensures reads { Says (named limits.room (MaybeExpression input.old.scope) input.old.tokens) result input.new.tokens }
+    ensures kept { IfOk result (λ read. input.new.scope ≡ input.old.scope) }
+{
+    if !begins_expression(input) {
+        return Ok(Read {
+            value: None,
+            depth: 0,
+        });
+    }
+    let read = expression(alloc, limits, Wanted::Expression, input)?;
+    Ok(Read {
+        value: Some(read.value),
+        depth: read.depth,
+    })
+}
+
+/// An expression, or none, and the token behind it.
+#[tactic(auto, using(crate::proofs::Phrases::until_rule))]
+pub fn expression_until(
+    alloc: Global,
+    limits: Limits,
+    sign: Sign,
+    input: &mut Input<'_>,
+) -> Result<Read<Option<Expr>>, Refusal>
+    ensures reads { Says (reads (named limits.room) (expression_until sign input.old.scope) input.old.tokens) result input.new.tokens }
+    ensures kept { IfOk result (λ read. input.new.scope ≡ input.old.scope) }
+{
+    let read = maybe_expression(alloc, limits, input)?;
+    if !input.is(sign) {
+        return Err(Refusal::Refused(false));
+    }
+    let _end = input.take();
+    Ok(read)
+}
+
+/// A condition in parentheses.
+#[tactic(auto, using(crate::proofs::Phrases::condition_rule))]
+pub fn condition(
+    alloc: Global,
+    limits: Limits,
+    input: &mut Input<'_>,
+) -> Result<Read<Expr>, Refusal>
+    ensures reads { Says (reads (named limits.room) (condition input.old.scope) input.old.tokens) result input.new.tokens }
+    ensures kept { IfOk result (λ read. input.new.scope ≡ input.old.scope) }
+{
+    if !input.is(Sign::OpenParen) {
+        return Err(Refusal::Refused(false));
+    }
+    let _opened = input.take();
+    let test = expression(alloc, limits, Wanted::Expression, input)?;
+    if !input.is(Sign::CloseParen) {
+        return Err(Refusal::Refused(false));
+    }
+    let _closed = input.take();
+    Ok(test)
+}
