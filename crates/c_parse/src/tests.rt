@@ -1,0 +1,349 @@
+//! What no clause says: that the grammar is the one that was meant, and that the call succeeds.
+
+use crate::{ParseRefusal, parse};
+use c_text::tokens;
+use sqlite_items::Items;
+use std::alloc::{AllocError, Global};
+use std::test::Fail;
+
+/// What became of a source.
+#[derive(Clone, Copy, Debug, PartialEq, Eq)]
+enum Told {
+    Read,
+    /// The number and the place.
+    Refused(u8, u32),
+    NoMemory,
+    Misspelled,
+}
+
+fn outcome(alloc: Global, source: &[u8]) -> Told {
+    if source.len() > 100_000 {
+        return Told::Misspelled;
+    }
+    let Ok(tokens) = tokens(alloc, source) else {
+        return Told::Misspelled;
+    };
+    match parse(alloc, source, tokens.as_slice()) {
+        Ok(_) => Told::Read,
+        Err(
+            ParseRefusal::Bad {
+                number,
+                token: _,
+                place,
+            },
+        ) => Told::Refused(number, place),
+        Err(ParseRefusal::NoMemory) => Told::NoMemory,
+    }
+}
+
+/// Sources, and the number and the place of their refusals.
+const REFUSED: [(&[u8], u8, u32); 36] = [
+    (b"void f(void) [[clang::nonbl", 1, 22),
+    (b"void f(void) { unsigned char c; }", 1, 24),
+    (b"int int x;", 1, 4),
+    (b"struct s t; struct s int x;", 1, 21),
+    (b"typedef int T; int T x;", 1, 21),
+    (b"static extern int x;", 1, 7),
+    (b"typedef static int x;", 1, 8),
+    (b"void f(void) { int g(int); }", 1, 20),
+    (b"void f(void) { struct s { int x; } t; }", 1, 24),
+    (b"void f(struct s { int x; } *p);", 1, 16),
+    (b"void f(void) { extern int x; }", 1, 15),
+    (b"void f(void) { _Thread_local int x; }", 1, 33),
+    (
+        b"void f(void) { _Thread_local static int x; break; }",
+        1,
+        43,
+    ),
+    (b"void f(void) { continue; }", 1, 15),
+    (b"void f(void) { while (1) break; break; }", 1, 32),
+    (b"int malloc;", 3, 4),
+    (b"void f(int abs) { }", 3, 11),
+    (b"enum { exit };", 3, 7),
+    (b"void f(void) { switch (1) { } }", 4, 15),
+    (b"int f(int x, ...);", 4, 13),
+    (b"float x;", 4, 0),
+    (b"int x", 1, 5),
+    (b"int x = (1 + 2", 1, 14),
+    (b"struct { int x; }", 1, 17),
+    (b"void f(void) { if (1) ; else ; else ; }", 1, 31),
+    (b"void f(void) { int T; T x; }", 1, 24),
+    (b"typedef int T; void f(void) { int T; T x; }", 1, 39),
+    (b"typedef int T; void f(int T, T x);", 1, 29),
+    (b"typedef T;", 1, 8),
+    (b"int x int y;", 1, 6),
+    (b"int f(void) { return 1 }", 1, 23),
+    (b"int x = 1 + y = 2;", 1, 14),
+    (b"int x = a ? b : c = 2;", 1, 18),
+    (b"int x = (int) y = 2;", 1, 16),
+    (b"int x = (int) y++ z;", 1, 18),
+    (b"int a[[2]];", 1, 6),
+];
+
+const READ: [&[u8]; 17] = [
+    b"",
+    b"int;",
+    b"typedef int T; T x; void f(T T);",
+    b"typedef int T; typedef int T; T x;",
+    b"typedef int T; void f(void) { { int T; T = 1; } T x; }",
+    b"typedef int T; int f(T x) { T y = (T) x; return sizeof(T) + sizeof y; }",
+    b"typedef int T; struct { T T; } s; void f(T T, int x) { T = x; }",
+    b"typedef int T; int g(int (T)); int h(int T);",
+    b"int (*f(int x))(int y) { return 0; }",
+    b"int a[2][3] = { { 1, 2, 3, }, { 4, 5, 6 } };",
+    b"void f(int [], int (*)(void), char *const *p);",
+    b"void f(void) [[clang::nonblocking(false), clang::blocking]] __attribute__((noreturn));",
+    b"void f(void) { if (1) if (2) ; else ; else ; for (int i = 0; i < 2; i++) continue; do ; while (0); }",
+    b"void f(void) { int x = a ? b : c ? d : e; x = y += 2, z; *p++ = -q->r.s[1](2, 3); }",
+    b"enum e { A, B = 2, } x;",
+    b"inline static _Noreturn void f(void) { exit(1); }",
+    b"void f(void) { _Thread_local static int x; x = sizeof(int[2]) + sizeof(x)[0]; }",
+];
+
+#[test]
+fn refused_tokens(rt: HostRuntime) {
+    for (source, number, place) in REFUSED {
+        assert_eq!(rt;
+            outcome(rt.alloc(), source),
+            Told::Refused(number, place),
+            "at {source:?}"
+        );
+    }
+}
+
+#[test]
+fn sources_that_are_read(rt: HostRuntime) {
+    for source in READ {
+        assert_eq!(rt; outcome(rt.alloc(), source), Told::Read, "at {source:?}");
+    }
+}
+
+/// A source with something nested in it: what stands before, the opening text, what stands at the inmost, the closing text, what
+/// stands behind; how often it may be nested, and the place of the token that is refused where it is nested once more.
+#[derive(Clone, Copy, Debug)]
+struct Nested {
+    before: &'static [u8],
+    opening: &'static [u8],
+    inmost: &'static [u8],
+    closing: &'static [u8],
+    behind: &'static [u8],
+    times: usize,
+    refused: u32,
+}
+
+const NESTED: [Nested; 11] = [
+    Nested {
+        before: b"int x = ",
+        opening: b"(",
+        inmost: b"1",
+        closing: b")",
+        behind: b";",
+        times: 198,
+        refused: 207,
+    },
+    Nested {
+        before: b"void f(void) {",
+        opening: b"{",
+        inmost: b"",
+        closing: b"}",
+        behind: b"}",
+        times: 198,
+        refused: 212,
+    },
+    Nested {
+        before: b"int ",
+        opening: b"*",
+        inmost: b"x",
+        closing: b"",
+        behind: b";",
+        times: 199,
+        refused: 203,
+    },
+    Nested {
+        before: b"int ",
+        opening: b"(",
+        inmost: b"x",
+        closing: b")",
+        behind: b";",
+        times: 199,
+        refused: 203,
+    },
+    Nested {
+        before: b"int x = ",
+        opening: b"- ",
+        inmost: b"1",
+        closing: b"",
+        behind: b";",
+        times: 198,
+        refused: 406,
+    },
+    Nested {
+        before: b"int x = ",
+        opening: b"1 ? 1 : ",
+        inmost: b"1",
+        closing: b"",
+        behind: b";",
+        times: 198,
+        refused: 1594,
+    },
+    Nested {
+        before: b"int x[] = ",
+        opening: b"{",
+        inmost: b"1",
+        closing: b"}",
+        behind: b";",
+        times: 198,
+        refused: 209,
+    },
+    Nested {
+        before: b"int x = ",
+        opening: b"(int) ",
+        inmost: b"1",
+        closing: b"",
+        behind: b";",
+        times: 198,
+        refused: 1202,
+    },
+    Nested {
+        before: b"int x = ",
+        opening: b"a = ",
+        inmost: b"1",
+        closing: b"",
+        behind: b";",
+        times: 198,
+        refused: 802,
+    },
+    Nested {
+        before: b"int x = 1",
+        opening: b" + 1",
+        inmost: b"",
+        closing: b"",
+        behind: b";",
+        times: 198,
+        refused: 802,
+    },
+    Nested {
+        before: b"void f(void) {",
+        opening: b"if (1) ",
+        inmost: b";",
+        closing: b"",
+        behind: b"}",
+        times: 197,
+        refused: 1397,
+    },
+];
+
+fn push_all(text: &mut Items<u8>, bytes: &[u8]) -> Result<(), AllocError> {
+    for byte in bytes {
+        text.push(*byte)?;
+    }
+    Ok(())
+}
+
+fn nested_text(alloc: Global, nest: Nested, times: usize) -> Result<Items<u8>, AllocError> {
+    let mut text = Items::new(alloc);
+    push_all(&mut text, nest.before)?;
+    for _ in 0..times {
+        push_all(&mut text, nest.opening)?;
+    }
+    push_all(&mut text, nest.inmost)?;
+    for _ in 0..times {
+        push_all(&mut text, nest.closing)?;
+    }
+    push_all(&mut text, nest.behind)?;
+    Ok(text)
+}
+
+#[test]
+fn nesting_of_200_is_read_and_of_201_refused(rt: HostRuntime) -> Result<(), Fail> {
+    for nest in NESTED {
+        let deepest = nested_text(rt.alloc(), nest, nest.times)?;
+        assert_eq!(rt;
+            outcome(rt.alloc(), deepest.as_slice()),
+            Told::Read,
+            "at {nest:?}"
+        );
+        let deeper = nested_text(rt.alloc(), nest, nest.times + 1)?;
+        assert_eq!(rt;
+            outcome(rt.alloc(), deeper.as_slice()),
+            Told::Refused(2, nest.refused),
+            "at {nest:?}"
+        );
+    }
+    Ok(())
+}
+
+const AUDIO: &[u8] = b"\
+#include <stdio.h>
+#include <stdlib.h>
+#include <pthread.h>
+#include <unistd.h>
+#include <sanitizer/rtsan_interface.h>
+
+enum { SIZE = 64, FRAMES = 16 };
+
+typedef struct {
+  int samples[SIZE];
+  unsigned head;
+  unsigned tail;
+} ring_t;
+
+typedef int (*callback_t)(ring_t *r, int *out, int n) [[clang::nonblocking]];
+
+static ring_t ring;
+static pthread_mutex_t log_lock = PTHREAD_MUTEX_INITIALIZER;
+
+static int ring_pop(ring_t *r, int *v) {
+  if (r->head == r->tail) return 0;
+  *v = r->samples[r->head % SIZE];
+  r->head = r->head + 1;
+  return 1;
+}
+
+static int ring_push(ring_t *r, int v) {
+  if (r->tail - r->head == SIZE) return 0;
+  r->samples[r->tail % SIZE] = v;
+  r->tail = r->tail + 1;
+  return 1;
+}
+
+static int clip(int v) { return v > 1000 ? 1000 : v; }
+
+static int process(ring_t *r, int *out, int n) [[clang::nonblocking]] {
+  int got = 0;
+  for (int i = 0; i < n; i++) {
+    int v = 0;
+    if (ring_pop(r, &v)) got++;
+    out[i] = clip(abs(v) * 3);
+  }
+  return got;
+}
+
+static void *fill(void *arg) {
+  ring_t *r = arg;
+  for (int i = 0; i < 200; i++)
+    if (!ring_push(r, i * 7 - 500)) usleep(10);
+  pthread_mutex_lock(&log_lock);
+  puts(\"filled\");
+  pthread_mutex_unlock(&log_lock);
+  return NULL;
+}
+
+int main(void) {
+  callback_t cb = process;
+  int *out = malloc(FRAMES * sizeof(int));
+  if (!out) return 1;
+  pthread_t t;
+  if (pthread_create(&t, NULL, fill, &ring)) return 1;
+  for (int i = 0; i < 50; i++) cb(&ring, out, FRAMES);
+  pthread_join(t, NULL);
+  free(out);
+  puts(\"done\");
+  return 0;
+}
+";
+
+#[test]
+fn the_audio_program_is_read(rt: HostRuntime) {
+    assert_eq!(rt; outcome(rt.alloc(), AUDIO), Told::Read);
+}
