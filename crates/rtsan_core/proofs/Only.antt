@@ -4,6 +4,9 @@ use Rattle.std.proofs.lemmas.List.{length-replicate}
 use Rattle.core_unit.specs.Units.{UnitParts}
 use Rattle.c_text.specs.declared.Token.{Token}
 use Rattle.c_text.specs.Spelling.{IsSpelled}
+use Rattle.c_tree.specs.declared.statements.Tree.{Tree}
+use Rattle.c_parse.specs.Parsed.{IsParsed, IsRefusedAt}
+use Rattle.c_parse.proofs.Laws.{not_both, one_refusal}
 use Rattle.built_form.specs.Built.{IsOfForm}
 use Rattle.eff_check.specs.declared.Warning.{Warning}
 use Rattle.eff_check.specs.Violations.{AreWarnings}
@@ -17,10 +20,10 @@ use Rattle.src_model.specs.Run.{IsRun}
 use Rattle.src_model.proofs.OneRun.{one_trace, one_ending}
 use Rattle.rtsan_core.specs.declared.words.Job.{Job}
 use Rattle.rtsan_core.specs.declared.words.Job.TheVariants.{Check, Step}
-use Rattle.rtsan_core.specs.Lines.{Answer, warned, misspelled, not_built, source_too_long, unlinked, ran}
+use Rattle.rtsan_core.specs.Lines.{Answer, warned, misspelled, unread, not_built, source_too_long, unlinked, ran}
 use Rattle.rtsan_core.specs.Runs.{entry_name, IsRunnable}
-use Rattle.rtsan_core.specs.Answers.{IsUnitOf, IsRefusal, TooLong, Misspelled, OtherForm, IsChecked, Read, IsStepped, NoEntry, Undefined, Long, Ran, IsUnitAnswer, IsAnswered, IsRefused, HasUnit, IsTheAnswer, IsLeft}
-use Rattle.rtsan_core.specs.Refusals.{HasNoFault, HasTheFault, IsElse}
+use Rattle.rtsan_core.specs.Answers.{IsUnitOf, IsRefusal, TooLong, Misspelled, Unread, OtherForm, IsChecked, Read, IsStepped, NoEntry, Undefined, Long, Ran, IsUnitAnswer, IsAnswered, IsRefused, HasUnit, IsTheAnswer, IsLeft}
+use Rattle.rtsan_core.specs.Refusals.{HasNoFault, HasTheFault, HasTheRefusal, AreTheTokens, IsTheTree, IsElse}
 use Rattle.rtsan_core.proofs.Runnable.{no_entry, one_entry, some_or_none_missing, one_missing}
 
 -- bytes that are spelled in one way read as one unit
@@ -75,6 +78,7 @@ one_unit_answer Step file source unit x y a b = one_stepped file source unit x y
 no_refusal : (file source : List ℕ) (unit : UnitParts) (other : Answer) → HasNoFault source → IsUnitOf source unit → IsRefusal file source other → ⊥
 no_refusal file source unit other well u (TooLong long e) = let short = u.short in omega (arith, long, short)
 no_refusal file source unit other well u (Misspelled s n p f e) = well.none n p f
+no_refusal file source unit other well u (Unread s ts sp n i p r e) = well.not_refused ts sp n i p r
 no_refusal file source unit other well u (OtherForm s o e) = o.none unit u
 
 only_unit : (job : Job) (file source : List ℕ) (unit : UnitParts) (answer : Answer) → HasNoFault source → IsUnitOf source unit → ((v : UnitParts) → IsUnitOf source v → v ≡ unit) → IsUnitAnswer job file source unit answer → (other : Answer) → IsAnswered job file source other → other ≡ answer
@@ -89,6 +93,7 @@ the_unit_answer job file source unit answer well u only a =
 other_refusal : (file source : List ℕ) → length source ≤ 1048576 → IsElse source → (other : Answer) → IsRefusal file source other → other ≡ not_built
 other_refusal file source short h other (TooLong long e) = absurd (omega (arith, long, short))
 other_refusal file source short h other (Misspelled s n p f e) = absurd (h.well_spelled.none n p f)
+other_refusal file source short h other (Unread s ts sp n i p r e) = absurd (h.well_spelled.not_refused ts sp n i p r)
 other_refusal file source short h other (OtherForm s o e) = e
 
 only_other : (job : Job) (file source : List ℕ) → length source ≤ 1048576 → IsElse source → (other : Answer) → IsAnswered job file source other → other ≡ not_built
@@ -106,6 +111,7 @@ one_fault file source number place n p e =
 fault_refusal : (file source : List ℕ) (number place : ℕ) → length source ≤ 1048576 → HasTheFault source number place → (other : Answer) → IsRefusal file source other → other ≡ misspelled file source number place
 fault_refusal file source number place short h other (TooLong long e) = absurd (omega (arith, long, short))
 fault_refusal file source number place short h other (Misspelled s n p f e) = e ∙ one_fault file source number place n p (h.only n p f)
+fault_refusal file source number place short h other (Unread s ts sp n i p r e) = absurd (h.unspelled ts sp)
 fault_refusal file source number place short h other (OtherForm s o e) = absurd (h.unspelled o.tokens o.spelled)
 
 only_fault : (job : Job) (file source : List ℕ) (number place : ℕ) → length source ≤ 1048576 → HasTheFault source number place → (other : Answer) → IsAnswered job file source other → other ≡ misspelled file source number place
@@ -116,9 +122,45 @@ pub the_fault : (job : Job) (file source : List ℕ) (number place : ℕ) → le
 the_fault job file source number place short h =
     record { is = IsRefused (Misspelled short number place h.first refl); only = only_fault job file source number place short h }
 
+one_unread : (file source : List ℕ) (number place n p : ℕ) → n ≡ number → p ≡ place → unread file source n p ≡ unread file source number place
+one_unread file source number place n p e f =
+    ap (λ k. unread file source k p) e ∙ ap (λ k. unread file source number k) f
+
+-- whatever reads these tokens as a tree is no refusal of them
+unread_tree : (source : List ℕ) (number place : ℕ) → HasTheRefusal source number place → (tokens : List Token) → IsSpelled source tokens → (tree : Tree) → IsParsed source tokens tree → ⊥
+unread_tree source number place h tokens spelled tree parsed =
+    not_both source h.tokens tree number h.index place (subst (λ ts. IsParsed source ts tree) (h.read.only tokens spelled) parsed) h.refused
+
+unread_refusal : (file source : List ℕ) (number place : ℕ) → length source ≤ 1048576 → HasTheRefusal source number place → (other : Answer) → IsRefusal file source other → other ≡ unread file source number place
+unread_refusal file source number place short h other (TooLong long e) = absurd (omega (arith, long, short))
+unread_refusal file source number place short h other (Misspelled s n p f e) = absurd (h.read.no_fault n p f)
+unread_refusal file source number place short h other (Unread s ts sp n i p r e) =
+    let same = one_refusal source h.tokens number h.index place n i p h.refused (subst (λ ts. IsRefusedAt source ts n i p) (h.read.only ts sp) r) in
+    e ∙ one_unread file source number place n p same.0 same.2
+unread_refusal file source number place short h other (OtherForm s o e) = absurd (unread_tree source number place h o.tokens o.spelled o.tree o.parsed)
+
+only_unread : (job : Job) (file source : List ℕ) (number place : ℕ) → length source ≤ 1048576 → HasTheRefusal source number place → (other : Answer) → IsAnswered job file source other → other ≡ unread file source number place
+only_unread job file source number place short h other (IsRefused r) = unread_refusal file source number place short h other r
+only_unread job file source number place short h other (HasUnit v w b) = absurd (unread_tree source number place h w.tokens w.spelled w.tree w.parsed)
+
+pub the_unread : (job : Job) (file source : List ℕ) (number place : ℕ) → length source ≤ 1048576 → HasTheRefusal source number place → IsTheAnswer job file source (unread file source number place)
+the_unread job file source number place short h =
+    record { is = IsRefused (Unread short h.tokens h.read.spelled number h.index place h.refused refl); only = only_unread job file source number place short h }
+
+pub unread_none : (source : List ℕ) (number place : ℕ) → HasTheRefusal source number place → (unit : UnitParts) → IsUnitOf source unit → ⊥
+unread_none source number place h unit u = unread_tree source number place h u.tokens u.spelled u.tree u.parsed
+
+-- no token of a source whose tokens are read is refused
+pub well_read : (source : List ℕ) (tokens : List Token) (tree : Tree) → AreTheTokens source tokens → IsTheTree source tokens tree → HasNoFault source
+well_read source tokens tree t h = record {
+  none = t.no_fault;
+  not_refused = λ others spelled number index place r. h.not_refused number index place (subst (λ ts. IsRefusedAt source ts number index place) (t.only others spelled) r);
+}
+
 long_refusal : (file source : List ℕ) → 1048576 < length source → (other : Answer) → IsRefusal file source other → other ≡ source_too_long
 long_refusal file source long other (TooLong l e) = e
 long_refusal file source long other (Misspelled s n p f e) = absurd (omega (arith, long, s))
+long_refusal file source long other (Unread s ts sp n i p r e) = absurd (omega (arith, long, s))
 long_refusal file source long other (OtherForm s o e) = absurd (omega (arith, long, s))
 
 only_long : (job : Job) (file source : List ℕ) → 1048576 < length source → (other : Answer) → IsAnswered job file source other → other ≡ source_too_long

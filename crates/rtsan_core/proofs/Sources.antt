@@ -5,7 +5,7 @@ use Rattle.eff_check.specs.declared.Warning.{Warning}
 use Rattle.eff_check.specs.Violations.{AreWarnings}
 use Rattle.rtsan_core.specs.declared.finished.Finished.{Finished}
 use Rattle.rtsan_core.specs.declared.reading.Refusal.{Refusal}
-use Rattle.rtsan_core.specs.declared.reading.Refusal.TheVariants.{Misspelled, NotBuilt, NoMemory}
+use Rattle.rtsan_core.specs.declared.reading.Refusal.TheVariants.{Misspelled, Unread, NotBuilt, NoMemory}
 use Rattle.rtsan_core.specs.declared.status.Outcome.{Outcome}
 use Rattle.rtsan_core.specs.declared.status.Status.{Status}
 use Rattle.rtsan_core.specs.declared.words.Job.{Job}
@@ -15,11 +15,13 @@ use Rattle.rtsan_core.specs.Runs.{IsRunnable}
 use Rattle.rtsan_core.specs.Answers.{IsUnitOf, Read, IsLeft, IsSourceAnswer, NoRoom, Answered, IsStepAnswer, NoRoomToRun, NotRun, WasRun}
 use Rattle.rtsan_core.specs.Refusals.{HasNoFault, IsRefusedFor, refused}
 use Rattle.rtsan_core.specs.Printed.{IsPrinted, HasAnswered}
-use Rattle.rtsan_core.proofs.Only.{the_unit_answer, the_fault, the_other_form, nothing_left}
+use Rattle.rtsan_core.proofs.Only.{the_unit_answer, the_fault, the_unread, unread_none, the_other_form, nothing_left}
 
 pub refused_allowed : (job : Job) (file source : List ℕ) (refusal : Refusal) → length source ≤ 1048576 → IsRefusedFor source refusal → IsSourceAnswer job file source (refused file source refusal) None
 refused_allowed job file source (Misspelled number place) short h =
     Answered (the_fault job file source number place short h) (nothing_left job source (λ unit read. h.unspelled read.tokens read.spelled))
+refused_allowed job file source (Unread number place) short h =
+    Answered (the_unread job file source number place short h) (nothing_left job source (unread_none source number place h))
 refused_allowed job file source NotBuilt short h =
     Answered (the_other_form job file source short h) (nothing_left job source h.other.none)
 refused_allowed job file source NoMemory short h = NoRoom refl refl

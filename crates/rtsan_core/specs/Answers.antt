@@ -3,6 +3,8 @@
 use Rattle.std.specs.Prelude.{◌≡◌, ℕ, ◌<◌, ◌≤◌, List, length, Option, Some, None}
 use Rattle.c_text.specs.declared.Token.{Token}
 use Rattle.c_text.specs.Spelling.{IsSpelled, IsFirstFault}
+use Rattle.c_tree.specs.declared.statements.Tree.{Tree}
+use Rattle.c_parse.specs.Parsed.{IsParsed, IsRefusedAt}
 use Rattle.core_unit.specs.Units.{UnitParts}
 use Rattle.built_form.specs.Built.{IsOfForm}
 use Rattle.c_codegen.specs.Unit.{HasNoEntry, IsFirstMissing, unit_nodes, node_limit}
@@ -19,7 +21,7 @@ use Rattle.rtsan_core.specs.declared.words.Command.{Command}
 use Rattle.rtsan_core.specs.declared.words.Job.{Job}
 use Rattle.rtsan_core.specs.declared.words.Job.TheVariants.{Check, Step}
 use Rattle.rtsan_core.specs.Commands.{command_of}
-use Rattle.rtsan_core.specs.Lines.{Answer, usage, read_fault, no_memory, source_too_long, not_built, misspelled, warned, unlinked, code_too_long, ran}
+use Rattle.rtsan_core.specs.Lines.{Answer, usage, read_fault, no_memory, source_too_long, not_built, misspelled, unread, warned, unlinked, code_too_long, ran}
 use Rattle.rtsan_core.specs.Runs.{entry_name, IsRunnable, IsFinished}
 
 -- the bytes of a source file read as this unit
@@ -27,19 +29,24 @@ pub record IsUnitOf (source : List ℕ) (unit : UnitParts) : Type 0 where
   pub short : length source ≤ 1048576
   pub tokens : List Token
   pub spelled : IsSpelled source tokens
+  pub tree : Tree
+  pub parsed : IsParsed source tokens tree
   pub formed : IsOfForm source tokens unit
 
--- the bytes of a source file are spelled as tokens, but read as no unit of the form that is built
+-- the bytes of a source file are spelled as tokens and read by the grammar, but as no unit of the form that is built
 pub record IsOtherForm (source : List ℕ) : Type 0 where
   pub tokens : List Token
   pub spelled : IsSpelled source tokens
+  pub tree : Tree
+  pub parsed : IsParsed source tokens tree
   pub none : (unit : UnitParts) → IsUnitOf source unit → ⊥
 
 -- what is answered for a file of this name whose bytes read as no unit: they are too many, or their spelling has a first fault,
--- or they aren't of the form that is built
+-- or a token of them is refused, or they aren't of the form that is built
 pub data IsRefusal (file source : List ℕ) (answer : Answer) : Type 0 where
   TooLong : 1048576 < length source → answer ≡ source_too_long → IsRefusal file source answer
   Misspelled : length source ≤ 1048576 → (number place : ℕ) → IsFirstFault source number place → answer ≡ misspelled file source number place → IsRefusal file source answer
+  Unread : length source ≤ 1048576 → (tokens : List Token) → IsSpelled source tokens → (number index place : ℕ) → IsRefusedAt source tokens number index place → answer ≡ unread file source number place → IsRefusal file source answer
   OtherForm : length source ≤ 1048576 → IsOtherForm source → answer ≡ not_built → IsRefusal file source answer
 
 -- what `check` answers for a unit: its warnings

@@ -48,17 +48,32 @@ fault_text number =
     else (if number == 5 then codes "unknown escape"
     else codes "bad directive"))))
 
--- the line of a refused spelling: its texts one after the other
-unfoldable pub spelling_line : List ℕ → List ℕ → List ℕ → List ℕ → List ℕ → List ℕ
-spelling_line file line column number text =
-    concat (file ∷ codes ":" ∷ line ∷ codes ":" ∷ column ∷ codes ": refused: text " ∷ number ∷ codes " " ∷ text ∷ codes "\n" ∷ [])
+-- why a token is refused, by its number
+abbrev pub refusal_text : ℕ → List ℕ
+refusal_text number =
+    if number == 1 then codes "token not expected"
+    else (if number == 2 then codes "nesting over 200"
+    else (if number == 3 then codes "reserved name declared"
+    else codes "construct left out"))
+
+-- the line of a refused source: its texts one after the other
+unfoldable pub refused_line : List ℕ → List ℕ → List ℕ → List ℕ → List ℕ → List ℕ → List ℕ
+refused_line file line column layer number text =
+    concat (file ∷ codes ":" ∷ line ∷ codes ":" ∷ column ∷ codes ": refused: " ∷ layer ∷ codes " " ∷ number ∷ codes " " ∷ text ∷ codes "\n" ∷ [])
 
 abbrev pub misspelled_at : List ℕ → LineColumn → ℕ → Answer
 misspelled_at file at number =
-    record { status = Refused; text = spelling_line file (decimal at.line) (decimal at.column) (decimal number) (fault_text number) }
+    record { status = Refused; text = refused_line file (decimal at.line) (decimal at.column) (codes "text") (decimal number) (fault_text number) }
 
 abbrev pub misspelled : List ℕ → List ℕ → ℕ → ℕ → Answer
 misspelled file source number place = misspelled_at file (line_column source place) number
+
+abbrev pub unread_at : List ℕ → LineColumn → ℕ → Answer
+unread_at file at number =
+    record { status = Refused; text = refused_line file (decimal at.line) (decimal at.column) (codes "parse") (decimal number) (refusal_text number) }
+
+abbrev pub unread : List ℕ → List ℕ → ℕ → ℕ → Answer
+unread file source number place = unread_at file (line_column source place) number
 
 abbrev pub warned_status : List Warning → Status
 warned_status [] = Clean

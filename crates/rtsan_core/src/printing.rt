@@ -2,7 +2,7 @@
 
 ghost use Rattle.std.specs.Prelude.{◌≡◌, ◌≤◌, ◌++◌, List, length, OnOk, OnErr, decimal};
 ghost use Rattle.rt_base.specs.Outside.{Appends, AppendsPrefix, Rose};
-ghost use Rattle.rtsan_core.specs.Lines.{read_fault, usage, no_memory, not_built, source_too_long, misspelled, spelling_line, fault_text, warned, unlinked, warned_status, ended_status, run_status, run_texts, ran};
+ghost use Rattle.rtsan_core.specs.Lines.{read_fault, usage, no_memory, not_built, source_too_long, misspelled, unread, refused_line, refusal_text, fault_text, warned, unlinked, warned_status, ended_status, run_status, run_texts, ran};
 ghost use Rattle.rtsan_core.specs.Refusals.{refused, uncompiled, IsPlacedIn, IsNamedIn};
 ghost use Rattle.rtsan_core.specs.Printed.{IsPrinted};
 ghost use Rattle.eff_text.specs.WarningText.{ArePrintable};
@@ -79,7 +79,29 @@ fn print_misspelled<S: Sink>(
     ensures later { S.faults out.old ≤ S.faults out.new }
 {
     let (line, column) = line_column(source, place);
-    match write_misspelled(out, file, line, column, number) {
+    match write_refused(out, file, line, column, "text", number, fault_text(number)) {
+        Ok(()) => Status::Refused,
+        Err(SinkFault) => Status::WriteFault,
+    }
+}
+
+/// Says that the token at this place is refused with this number.
+fn print_unread<S: Sink>(out: &mut S, file: &str, source: &[u8], number: u8, place: u32) -> Status
+    requires short { length source.now ≤ 1048576 }
+    requires within { place ≤ length source.now }
+    ensures printed { IsPrinted (unread file.now source.now number place) result (S.taken out.old) (S.taken out.new) (S.faults out.old) (S.faults out.new) }
+    ensures later { S.faults out.old ≤ S.faults out.new }
+{
+    let (line, column) = line_column(source, place);
+    match write_refused(
+        out,
+        file,
+        line,
+        column,
+        "parse",
+        number,
+        refusal_text(number),
+    ) {
         Ok(()) => Status::Refused,
         Err(SinkFault) => Status::WriteFault,
     }
@@ -105,6 +127,7 @@ pub fn print_refusal<S: Sink>(out: &mut S, file: &str, source: &[u8], refusal: R
 {
     match refusal {
         Refusal::Misspelled { number, place } => print_misspelled(out, file, source, number, place),
+        Refusal::Unread { number, place } => print_unread(out, file, source, number, place),
         Refusal::NotBuilt => print_not_built(out),
         Refusal::NoMemory => print_no_memory(out),
     }
@@ -229,16 +252,18 @@ fn write_run<S: Sink>(
     write_ending(0, end, out)
 }
 
-/// Writes the line of a refused spelling.
-fn write_misspelled<S: Sink>(
+/// Writes the line of a refused source.
+fn write_refused<S: Sink>(
     out: &mut S,
     file: &str,
     line: u32,
     column: u32,
+    layer: &'static str,
     number: u8,
+    text: &'static str,
 ) -> Result<(), SinkFault>
-    ensures all { OnOk result (Appends (S.taken out.old) (S.taken out.new) (spelling_line file.now (decimal line) (decimal column) (decimal number) (fault_text number))) }
-    ensures part { OnErr result (AppendsPrefix (S.taken out.old) (S.taken out.new) (spelling_line file.now (decimal line) (decimal column) (decimal number) (fault_text number))) }
+    ensures all { OnOk result (Appends (S.taken out.old) (S.taken out.new) (refused_line file.now (decimal line) (decimal column) layer.now (decimal number) text.now)) }
+    ensures part { OnErr result (AppendsPrefix (S.taken out.old) (S.taken out.new) (refused_line file.now (decimal line) (decimal column) layer.now (decimal number) text.now)) }
     ensures fault { OnErr result (Rose (S.faults out.old) (S.faults out.new)) }
     ensures later { S.faults out.old ≤ S.faults out.new }
 {
@@ -247,21 +272,22 @@ fn write_misspelled<S: Sink>(
     let mut number_buffer = Buffer::new();
     let line = line_buffer.format(line);
     let column = column_buffer.format(column);
-    let number_text = number_buffer.format(number);
-    write_spelling_line(file, line, column, number_text, fault_text(number), out)
+    let number = number_buffer.format(number);
+    write_refused_line(file, line, column, layer, number, text, out)
 }
 
-#[tactic(auto, unfolding(crate::specs::Lines::spelling_line))]
-fn write_spelling_line<'a, S: Sink>(
+#[tactic(auto, unfolding(crate::specs::Lines::refused_line))]
+fn write_refused_line<'a, S: Sink>(
     file: &'a str,
     line: &'a str,
     column: &'a str,
+    layer: &'a str,
     number: &'a str,
     text: &'a str,
     out: &mut S,
 ) -> Result<(), SinkFault>
-    ensures all { OnOk result (Appends (S.taken out.old) (S.taken out.new) (spelling_line file.now line.now column.now number.now text.now)) }
-    ensures part { OnErr result (AppendsPrefix (S.taken out.old) (S.taken out.new) (spelling_line file.now line.now column.now number.now text.now)) }
+    ensures all { OnOk result (Appends (S.taken out.old) (S.taken out.new) (refused_line file.now line.now column.now layer.now number.now text.now)) }
+    ensures part { OnErr result (AppendsPrefix (S.taken out.old) (S.taken out.new) (refused_line file.now line.now column.now layer.now number.now text.now)) }
     ensures fault { OnErr result (Rose (S.faults out.old) (S.faults out.new)) }
     ensures later { S.faults out.old ≤ S.faults out.new }
 {
@@ -271,13 +297,27 @@ fn write_spelling_line<'a, S: Sink>(
         line,
         ":",
         column,
-        ": refused: text ",
+        ": refused: ",
+        layer,
+        " ",
         number,
         " ",
         text,
         "\n",
     ];
     write_pieces(&pieces, out)
+}
+
+/// Why a token is refused, by its number from 1 to 4.
+fn refusal_text(number: u8) -> &'static str
+    ensures { result.now ≡ refusal_text number }
+{
+    match number {
+        1 => "token not expected",
+        2 => "nesting over 200",
+        3 => "reserved name declared",
+        _ => "construct left out",
+    }
 }
 
 /// What is wrong at a fault of the spelling, by its number from 1 to 6.
