@@ -1,5 +1,5 @@
 -- Declarators: each rule as an equation.
-use Rattle.std.proofs.Common.{◌≡◌, refl, ℕ, zero, suc, ◌-◌, ◌<◌, ◌≤◌, max, Bool, true, false, cond, not, ◌&&◌, ◌||◌, List, [], ◌∷◌, length, Option, Some, None, ap, sym, ◌∙◌, arith}
+use Rattle.std.proofs.Common.{◌≡◌, refl, ℕ, zero, suc, ◌-◌, ◌<◌, ◌≤◌, max, Bool, true, false, cond, not, ◌&&◌, ◌||◌, List, length, Option, Some, None, ap, sym, ◌∙◌, arith}
 use Rattle.std.specs.Prelude.{is_some, is_none}
 use Rattle.grammar.specs.Parts.{Return, Take, Call, Either}
 use Rattle.grammar.specs.Parser.{Outcome, Got, Bad, begins, after, deepen}
@@ -13,31 +13,9 @@ use Rattle.c_grammar.specs.Grammar.{c_hints, starts_expression}
 use Rattle.c_input.specs.Input.{head, behind, sees}
 use Rattle.c_input.specs.Reads.{named, past, reads, joined}
 use Rattle.c_input.proofs.Steps.{plain_rule, chain_rule, past_ends, past_full, past_goes, max_zero, sees_less, less, reads_within, reads_shorter}
+use Rattle.c_input.proofs.Choices.{sees_alike, sees_never, sees_first, or_false, passed, either}
 use Rattle.c_declarators.proofs.Starting.{sees_and}
 use Rattle.c_declarators.specs.Starts.{opened_at, starts_name, may_lack, starts_step, params_parts}
-
--- tests
-pub sees_same : (f g : Lexeme → Bool) (ts : List Lexeme) → ((t : Lexeme) → f t ≡ g t) → sees f ts ≡ sees g ts
-unfolding sees
-sees_same f g [] h = refl
-sees_same f g (t ∷ ts) h = h t
-
-pub sees_never : (ts : List Lexeme) → sees (λ t. false) ts ≡ false
-unfolding sees
-sees_never [] = refl
-sees_never (t ∷ ts) = refl
-
-pub or_false : (b : Bool) → (b || false) ≡ b
-or_false true = refl
-or_false false = refl
-
--- parts that are one rule
-pub passed : {A : Type 0} (o : Outcome Lexeme A) → after (λ x d left. deepen d (Got x zero left)) o ≡ o
-passed (Got x d left) = ap (λ n. Got x n left) (max_zero d)
-passed (Bad deep left) = refl
-
-pick : {A : Type 0} (p q : Bool) (a b c d : Outcome Lexeme A) → p ≡ q → a ≡ b → c ≡ d → cond p a c ≡ cond q b d
-pick p q a b c d e f g = cc
 
 -- a declarator: no `[` behind it is left without its array
 closed_reads : (room : ℕ) (o : Outcome Lexeme DeclaratorRead)
@@ -54,7 +32,7 @@ module _ (room : ℕ) (s : Scope) (naming : Naming) where
       → reads (named room) (Either (Call (Pointer s naming) Return) (Call (Direct s naming b) closed)) ts
       ≡ cond (sees (is k.Star) ts) (named room (Pointer s naming) ts) (after (λ x d left. cond (is_some x.bracket) (Bad false left) (Got x d left)) (named room (Direct s naming b) ts))
   on_star b ts =
-      pick _ _ _ _ _ _ (sees_same (λ t. is k.Star t || false) (is k.Star) ts (λ t. or_false (is k.Star t))) (passed (named room (Pointer s naming) ts))
+      either (sees_first (is k.Star) ts) (passed (named room (Pointer s naming) ts))
       (closed_reads room (named room (Direct s naming b) ts))
 
   pub declarator_rule : (b : Bracket) (ts : List Lexeme)
@@ -97,7 +75,7 @@ module _ (room : ℕ) (s : Scope) where
   lacking naming ts =
       group_or (sees (λ t. is k.OpenParen t || false) ts) (sees (is k.OpenParen) ts) (Got (absent None) 0 ts)
       (after (λ x d left. deepen d (Got x zero left)) (named room (Group s naming) ts)) (named room (Group s naming) ts)
-      (sees_same (λ t. is k.OpenParen t || false) (is k.OpenParen) ts (λ t. or_false (is k.OpenParen t))) (a_group naming ts)
+      (sees_first (is k.OpenParen) ts) (a_group naming ts)
 
   pub start_rule : (naming : Naming) (b : Bracket) (ts : List Lexeme) → opened_at b ≡ None
       → reads (named room) (direct_start s naming b) ts
@@ -127,8 +105,8 @@ module _ (room : ℕ) (s : Scope) (naming : Naming) (b : Bracket) where
       → sees (begins c_hints (direct_step s naming b m x)) ts ≡ sees (starts_step s naming b m x.reach) ts
   same_step x None ts = refl
   same_step x (Some p) ts =
-      sees_same (λ t. is k.CloseBracket t || (starts_expression s t || false)) (λ t. is k.CloseBracket t || starts_expression s t) ts
-      (λ t. ap (λ e. is k.CloseBracket t || e) (or_false (starts_expression s t)))
+      sees_alike (λ t. is k.CloseBracket t || (starts_expression s t || false)) (λ t. is k.CloseBracket t || starts_expression s t)
+      (λ t. ap (λ e. is k.CloseBracket t || e) (or_false (starts_expression s t))) ts
 
   module _ (x : DeclaratorRead) (d : ℕ) (ts : List Lexeme) where
     pub direct_ends : sees (starts_step s naming b x.bracket x.reach) ts ≡ false → past room (Direct s naming b) x d ts ≡ Got x d ts

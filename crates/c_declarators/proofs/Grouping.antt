@@ -1,5 +1,5 @@
 -- Groups: each way through the rule as an equation.
-use Rattle.std.proofs.Common.{◌≡◌, refl, ℕ, ◌-◌, ◌<◌, Bool, true, false, cond, ◌||◌, List, [], None, ap, ◌∙◌, arith}
+use Rattle.std.proofs.Common.{◌≡◌, refl, ℕ, ◌-◌, ◌<◌, false, cond, ◌||◌, List, [], None, ap, ◌∙◌, arith}
 use Rattle.grammar.specs.Parser.{Outcome, Got, Bad, one_more}
 use Rattle.c_grammar.specs.declared.Sign.TheVariants as k
 use Rattle.c_grammar.specs.Lexemes.{Lexeme, is, place}
@@ -11,13 +11,7 @@ use Rattle.c_input.specs.Input.{head, behind, sees}
 use Rattle.c_input.specs.Reads.{named, reads}
 use Rattle.c_input.proofs.Steps.{node_rule, full_rule, reads_within}
 use Rattle.c_declarators.specs.Starts.{may_lack, function_parts, declarator_parts, list_parts, attribute_parts, group_parts}
-use Rattle.c_declarators.specs.Parameters.{starts_list}
-use Rattle.c_declarators.proofs.Directs.{sees_same}
-use Rattle.c_declarators.proofs.Listing.{starts_barred}
-
-twice : (p : Bool) (y z o : Outcome Lexeme DeclaratorRead) → cond p (cond p y z) o ≡ cond p y o
-twice true y z o = refl
-twice false y z o = refl
+use Rattle.c_input.proofs.Choices.{sees_first, twice}
 
 module _ (call : (n : Rule) → List Lexeme → Outcome Lexeme (ValueOf n)) (s : Scope) where
   opens : (naming : Naming) (ts : List Lexeme)
@@ -30,7 +24,7 @@ module _ (call : (n : Rule) → List Lexeme → Outcome Lexeme (ValueOf n)) (s :
   open_rule : (naming : Naming) (p : ℕ) (ts : List Lexeme)
       → reads call (open_group s naming p) ts
       ≡ cond (sees (is k.OpenBracket) ts) (reads call (group_bracket s naming p (place (head ts))) (behind ts))
-      (cond (sees (starts_list true s) ts) (reads call (list_parts BarredHome s [] p) ts)
+      (cond (sees (starts_specs BarredHome s no_specs) ts) (reads call (list_parts BarredHome s [] p) ts)
       (cond (sees (is k.CloseParen) ts) (reads call (function_parts s (absent None) p no_params) ts) (reads call (declarator_parts s naming Barred p) ts)))
   open_rule naming p ts =
       twice (sees (is k.OpenBracket) ts) (reads call (group_bracket s naming p (place (head ts))) (behind ts)) (Bad false ts)
@@ -39,13 +33,13 @@ module _ (call : (n : Rule) → List Lexeme → Outcome Lexeme (ValueOf n)) (s :
       ∙ ap (λ b. cond (sees (is k.OpenBracket) ts) (reads call (group_bracket s naming p (place (head ts))) (behind ts))
       (cond b (reads call (list_parts BarredHome s [] p) ts)
       (cond (sees (is k.CloseParen) ts) (reads call (function_parts s (absent None) p no_params) ts) (reads call (declarator_parts s naming Barred p) ts))))
-      (sees_same (λ t. starts_specs BarredHome s no_specs t || false) (starts_list true s) ts (λ t. starts_barred s t))
+      (sees_first (starts_specs BarredHome s no_specs) ts)
 
   pub parts_rule : (naming : Naming) (p : ℕ) (ts : List Lexeme)
       → reads call (group_parts s naming p) ts
       ≡ cond (may_lack naming Unknown)
       (cond (sees (is k.OpenBracket) ts) (reads call (group_bracket s naming p (place (head ts))) (behind ts))
-      (cond (sees (starts_list true s) ts) (reads call (list_parts BarredHome s [] p) ts)
+      (cond (sees (starts_specs BarredHome s no_specs) ts) (reads call (list_parts BarredHome s [] p) ts)
       (cond (sees (is k.CloseParen) ts) (reads call (function_parts s (absent None) p no_params) ts) (reads call (declarator_parts s naming Barred p) ts))))
       (reads call (declarator_parts s naming Unknown p) ts)
   parts_rule Ordinary p ts = refl
@@ -66,10 +60,7 @@ a_group room s naming ts l =
     node_rule room (Group s naming) ts (group s naming) refl l ∙ ap (λ o. one_more o) (opens (λ n us. named (room - 1) n us) s naming ts)
 
 pub no_group : (room : ℕ) (s : Scope) (naming : Naming) (ts : List Lexeme) → room ≡ 0 → named room (Group s naming) ts ≡ Bad (sees (is k.OpenParen) ts) ts
-no_group room s Ordinary ts e = full_rule room (Group s Ordinary) ts (group s Ordinary) refl e
-no_group room s Membered ts e = full_rule room (Group s Membered) ts (group s Membered) refl e
-no_group room s Optional ts e = full_rule room (Group s Optional) ts (group s Optional) refl e
-no_group room s Nameless ts e = full_rule room (Group s Nameless) ts (group s Nameless) refl e
+no_group room s naming ts e = full_rule room (Group s naming) ts (group s naming) refl e
 
 pub group_within : (room : ℕ) (s : Scope) (naming : Naming) (p : ℕ) (ts : List Lexeme) (x : DeclaratorRead) (d : ℕ) (rest : List Lexeme) → 0 < room
     → reads (named (room - 1)) (group_parts s naming p) ts ≡ Got x d rest → d < room

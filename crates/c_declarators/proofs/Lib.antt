@@ -1,5 +1,3 @@
-pub mod Then
-pub mod Attributed
 pub mod Specifying
 pub mod Lines
 pub mod Pointing

@@ -15,7 +15,7 @@ use Rattle.c_input.specs.Input.{behind, sees}
 use Rattle.c_input.specs.Reads.{named, reads, behind_items}
 use Rattle.c_input.proofs.Steps.{plain_rule}
 use Rattle.c_declarators.specs.Parts.{member_line, enumerator}
-use Rattle.c_declarators.proofs.Then.{reads_followed, call_falls, item_goes, item_ends}
+use Rattle.c_input.proofs.Then.{reads_followed, call_falls, item_goes, item_ends}
 
 -- what stands behind one declarator, one line, one enumerator
 abbrev pub declarators_rest : Scope → DeclaratorRead → Reading (List trees.Declarator)

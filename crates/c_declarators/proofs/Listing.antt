@@ -1,20 +1,20 @@
 -- Parameters and type names: each rule as an equation.
-use Rattle.std.proofs.Common.{◌≡◌, refl, ℕ, suc, ◌-◌, ◌<◌, ◌≤◌, max, Bool, true, false, cond, ◌&&◌, ◌||◌, List, [], ◌∷◌, ◌++◌, length, map, Option, Some, None, ap, sym, ◌∙◌, append_assoc, arith}
+use Rattle.std.proofs.Common.{◌≡◌, refl, ℕ, suc, ◌-◌, ◌<◌, ◌≤◌, max, Bool, true, false, cond, ◌||◌, List, [], ◌∷◌, ◌++◌, length, map, Option, Some, None, ap, sym, ◌∙◌, append_assoc, arith}
 use denote.Bor.{Bor}
 use Rattle.grammar.specs.Parts.{Return, Take, Call, Either}
 use Rattle.grammar.specs.Parser.{Outcome, Got, Bad, after, deepen}
 use Rattle.c_tree.specs.declared.expressions.Spec.{Spec}
 use Rattle.c_grammar.specs.declared.Sign.TheVariants as k
 use Rattle.c_grammar.specs.Lexemes.{Lexeme, is}
-use Rattle.c_grammar.specs.Rules.{Scope, Home, TypeHome, BarredHome, Optional, SpecsRead, DeclaratorRead, ParamsRead, Specs, Declarator, Params, ParamList, TypeName}
+use Rattle.c_grammar.specs.Rules.{Scope, Home, TypeHome, Optional, SpecsRead, DeclaratorRead, ParamsRead, Specs, Declarator, Params, ParamList, TypeName}
 use Rattle.c_grammar.specs.Specifiers.{no_specs, type_name, after as behind_specs}
 use Rattle.c_grammar.specs.Declarators.{param, join, with_name, add_param, no_params, params, param_list, hide}
 use Rattle.c_grammar.specs.Grammar.{starts_specs}
 use Rattle.c_input.specs.Input.{behind, sees, cut_scope}
 use Rattle.c_input.specs.Reads.{named, reads}
 use Rattle.c_input.proofs.Steps.{plain_rule, reads_shorter, sees_less}
-use Rattle.c_declarators.specs.Parameters.{starts_list, ParamRead, one_param, with_param, behind_params}
-use Rattle.c_declarators.proofs.Directs.{sees_same, passed, or_false}
+use Rattle.c_declarators.specs.Parameters.{ParamRead, one_param, with_param, behind_params}
+use Rattle.c_input.proofs.Choices.{sees_first, passed}
 
 pub join_append : (xs ys : List Spec) → xs ++ ys ≡ join xs ys
 join_append [] ys = refl
@@ -27,32 +27,13 @@ map_one (y ∷ xs) x = ap (λ more. y.now ∷ more) (map_one xs x)
 pub a_type_name : (room : ℕ) (s : Scope) (ts : List Lexeme) → named room (TypeName s) ts ≡ reads (named room) (type_name s) ts
 a_type_name room s ts = plain_rule room (TypeName s) ts (type_name s) refl
 
--- what may begin a parameter
-or_assoc : (a b c : Bool) → ((a || b) || c) ≡ (a || (b || c))
-or_assoc true b c = refl
-or_assoc false b c = refl
-
-and_true : (a : Bool) → (a && true) ≡ a
-and_true true = refl
-and_true false = refl
-
-and_false : (a : Bool) → (a && false) ≡ false
-and_false true = refl
-and_false false = refl
-
-pub starts_type : (s : Scope) (t : Lexeme) → (starts_specs TypeHome s no_specs t || false) ≡ starts_list false s t
-starts_type s t = simp (or_assoc, or_false, and_true)
-
-pub starts_barred : (s : Scope) (t : Lexeme) → (starts_specs BarredHome s no_specs t || false) ≡ starts_list true s t
-starts_barred s t = simp (or_assoc, or_false, and_true, and_false)
-
 pub params_rule : (room : ℕ) (s : Scope) (ts : List Lexeme)
-    → named room (Params s) ts ≡ cond (sees (starts_list false s) ts) (named room (ParamList TypeHome s []) ts) (Got no_params 0 ts)
+    → named room (Params s) ts ≡ cond (sees (starts_specs TypeHome s no_specs) ts) (named room (ParamList TypeHome s []) ts) (Got no_params 0 ts)
 params_rule room s ts =
     plain_rule room (Params s) ts (params s) refl
     ∙ ap (λ o. cond (sees (λ t. starts_specs TypeHome s no_specs t || false) ts) o (Got no_params 0 ts)) (passed (named room (ParamList TypeHome s []) ts))
     ∙ ap (λ b. cond b (named room (ParamList TypeHome s []) ts) (Got no_params 0 ts))
-    (sees_same (λ t. starts_specs TypeHome s no_specs t || false) (starts_list false s) ts (λ t. starts_type s t))
+    (sees_first (starts_specs TypeHome s no_specs) ts)
 
 -- one parameter, and those behind it
 abbrev next : ℕ → Scope → ParamRead → ℕ → List Lexeme → Outcome Lexeme ParamsRead

@@ -14,11 +14,11 @@ use Rattle.c_grammar.specs.Specifiers.{more_specs, end_specs, is_spec_word, spec
 use Rattle.c_input.specs.Input.{head, behind, sees}
 use Rattle.c_input.specs.Reads.{named, reads}
 use Rattle.c_input.proofs.Steps.{plain_rule, sees_less}
-use Rattle.c_declarators.specs.Parts.{gnu_attribute, bracket_attribute}
+use Rattle.c_specifiers.specs.Parts.{gnu_attribute, bracket_attribute}
 use Rattle.c_declarators.specs.Specified.{tagged, tagged_read, structure_of, structure_read, enumeration_of, enumeration_read, goes, attributed, word_next, ended, bracket_read, next_read, behind_specs}
 use Rattle.c_declarators.specs.declared.specifiers.Next.{Next}
 use Rattle.c_declarators.specs.declared.specifiers.Next.TheVariants.{More, End}
-use Rattle.c_declarators.proofs.Then.{behind_falls, followed, Begins, reads_followed, deepen_none}
+use Rattle.c_input.proofs.Then.{behind_falls, followed, Begins, reads_followed, deepen_none}
 
 -- what is read behind a specifier, or behind their end
 abbrev pub next_parts : Home → Scope → Next → Reading SpecsRead

@@ -2,21 +2,12 @@
 use Rattle.std.specs.Prelude.{ℕ, List, Option, Some, None}
 use denote.Bor.{Bor}
 use Rattle.c_grammar.specs.Rules as rules
-use Rattle.c_declarators.specs.declared.declared.Home.{Home}
-use Rattle.c_declarators.specs.declared.declared.Home.TheVariants as home
 use Rattle.c_declarators.specs.declared.declared.Naming.{Naming}
 use Rattle.c_declarators.specs.declared.declared.Naming.TheVariants as naming
 use Rattle.c_declarators.specs.declared.declared.Bracket.{Bracket}
 use Rattle.c_declarators.specs.declared.declared.Bracket.TheVariants as bracket
 use Rattle.c_declarators.specs.declared.declared.Reach.{Reach}
 use Rattle.c_declarators.specs.declared.declared.Reach.TheVariants as reach
-
-abbrev pub home_of : Home → rules.Home
-home_of home.File = rules.FileHome
-home_of home.Block = rules.BlockHome
-home_of home.Member = rules.MemberHome
-home_of home.Type = rules.TypeHome
-home_of home.Barred = rules.BarredHome
 
 abbrev pub naming_of : Naming → rules.Naming
 naming_of naming.Ordinary = rules.Ordinary

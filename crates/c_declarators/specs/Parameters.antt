@@ -1,5 +1,5 @@
 -- Parameters, by the parts of the code.
-use Rattle.std.specs.Prelude.{ℕ, max, Bool, true, false, not, ◌&&◌, ◌||◌, List, [], ◌∷◌, ◌++◌, Option, Some, None}
+use Rattle.std.specs.Prelude.{ℕ, max, Bool, true, false, List, [], ◌∷◌, ◌++◌, Option, Some, None}
 use Rattle.grammar.specs.Parts.{Return, Call}
 use Rattle.grammar.specs.Parser.{Outcome, Got, Bad}
 use Rattle.c_tree.specs.declared.words.TypeWord.TheVariants as type_word
@@ -10,10 +10,9 @@ use Rattle.c_tree.specs.declared.expressions.Parameters.{Parameters}
 use Rattle.c_tree.specs.declared.expressions.Parameters.TheVariants as parameters
 use Rattle.c_tree.specs.declared.expressions.Declarator as trees
 use Rattle.c_tree.specs.declared.expressions.Declarator.TheVariants as d
-use Rattle.c_grammar.specs.declared.Sign.TheVariants as k
-use Rattle.c_grammar.specs.Lexemes.{Lexeme, is, is_among}
+use Rattle.c_grammar.specs.Lexemes.{Lexeme}
 use Rattle.c_grammar.specs.Rules.{Scope, Home, Optional, ParamsRead, Specs, Declarator}
-use Rattle.c_grammar.specs.Expressions.{Reading, has_type}
+use Rattle.c_grammar.specs.Expressions.{Reading}
 use Rattle.c_grammar.specs.Specifiers.{no_specs, after}
 use Rattle.c_grammar.specs.Declarators.{param, join, with_name}
 
@@ -30,13 +29,6 @@ abbrev pub listed : Option ℕ → List Param → Parameters
 listed (Some place) params = parameters.Void place
 listed None [] = parameters.Empty
 listed None (p ∷ more) = parameters.List (p ∷ more)
-
--- what may begin a parameter
-abbrev pub starts_list : Bool → Scope → Lexeme → Bool
-starts_list barred s t =
-    (is_among (k.Inline ∷ k.NoReturn ∷ []) t && not s.block)
-    || (is_among (k.Const ∷ k.Volatile ∷ k.Restrict ∷ k.Void ∷ k.Char ∷ k.Int ∷ k.Signed ∷ k.Unsigned ∷ []) t
-    || ((is k.Name t && has_type s.types t) || (is_among (k.Struct ∷ k.Enum ∷ k.Attribute ∷ []) t || (is k.OpenBracket t && not barred))))
 
 -- one parameter with the text of its name
 pub record ParamRead : Type 0 where

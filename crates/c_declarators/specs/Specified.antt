@@ -12,7 +12,7 @@ use Rattle.c_grammar.specs.Expressions.{Reading, word}
 use Rattle.c_grammar.specs.Specifiers.{is_spec_word, spec_of, after_sign, after_type, is_barred, is_abstract, is_whole, opens_definition}
 use Rattle.c_input.specs.Input.{head, behind, sees}
 use Rattle.c_input.specs.Reads.{named, reads}
-use Rattle.c_declarators.specs.Parts.{gnu_attribute, bracket_attribute}
+use Rattle.c_specifiers.specs.Parts.{gnu_attribute, bracket_attribute}
 use Rattle.c_declarators.specs.declared.specifiers.Tagged.{Tagged}
 use Rattle.c_declarators.specs.declared.specifiers.Tagged.TheVariants.{Alone, Defined}
 use Rattle.c_declarators.specs.declared.specifiers.Next.{Next}

@@ -2,56 +2,17 @@
 
 ghost use Rattle.std.specs.Prelude.{◌≡◌, ◌&&◌};
 ghost use Rattle.c_grammar.specs.declared.Sign.TheVariants.{OpenBracket, OpenParen};
-ghost use Rattle.c_grammar.specs.Lexemes.{is, has_text};
-ghost use Rattle.c_grammar.specs.Specifiers.{reserved_names, is_ordinary_name};
+ghost use Rattle.c_grammar.specs.Lexemes.{is};
 ghost use Rattle.c_grammar.specs.Declarators.{takes_array, takes_params};
-ghost use Rattle.c_grammar.specs.Grammar.{starts_expression, starts_size};
+ghost use Rattle.c_grammar.specs.Grammar.{starts_size};
 ghost use Rattle.c_input.specs.Input.{sees};
 ghost use Rattle.c_declarators.specs.Named.{naming_of, bracket_of, reach_of};
 ghost use Rattle.c_declarators.specs.Starts.{opened_at, starts_name, may_lack, starts_step};
 
 use crate::declared::{Bracket, Declared, Naming, Reach};
-use crate::names::{RESERVED, has_text};
 use c_grammar::Sign;
-use c_input::{Input, Seen};
-
-/// Whether it is a reserved name.
-fn is_reserved(seen: &Seen<'_>) -> bool
-    ensures { result ≡ has_text reserved_names seen.now }
-{
-    has_text(seen, &RESERVED)
-}
-
-/// Whether it can be declared as an ordinary name.
-fn is_ordinary_name(seen: &Seen<'_>) -> bool
-    ensures { result ≡ is_ordinary_name seen.now }
-{
-    seen.is(Sign::Name) && !is_reserved(seen)
-}
-
-/// Whether an expression begins here.
-#[tactic(auto, using(c_input::proofs::Steps::sees_none, c_input::proofs::Steps::sees_head))]
-fn begins_expression(input: &Input<'_>) -> bool
-    ensures { result ≡ sees (starts_expression input.now.scope) input.now.tokens }
-{
-    if input.is_done() {
-        return false;
-    }
-    let seen = input.peek();
-    seen.is_among(&[
-        Sign::Increment,
-        Sign::Decrement,
-        Sign::Sizeof,
-        Sign::Ampersand,
-        Sign::Star,
-        Sign::Plus,
-        Sign::Minus,
-        Sign::Tilde,
-        Sign::Exclamation,
-    ]) || seen.is(Sign::OpenParen)
-        || seen.is_among(&[Sign::Number, Sign::Character, Sign::Text])
-        || (seen.is(Sign::Name) && !input.is_type(seen.text()))
-}
+use c_input::Input;
+use c_starts::{begins_expression, is_ordinary_name, is_reserved};
 
 /// Whether the rest of an array begins here.
 #[tactic(auto, using(crate::proofs::Starting::size_closes, crate::proofs::Starting::size_starts))]
@@ -113,10 +74,16 @@ pub fn begins_name(naming: Naming, bracket: Bracket, input: &Input<'_>) -> bool
 fn takes_array(reach: Reach, bracket: Bracket) -> bool
     ensures { result ≡ takes_array (reach_of reach) (bracket_of bracket) }
 {
-    match (reach, bracket) {
-        (Reach::Called, _) => false,
-        (Reach::Nothing, Bracket::Passed) => false,
-        (_, _) => true,
+    match reach {
+        Reach::Called => false,
+        Reach::Nothing => match bracket {
+            Bracket::Passed => false,
+            Bracket::Unknown => true,
+            Bracket::Barred => true,
+            Bracket::Opened(_) => true,
+        },
+        Reach::NameAlone => true,
+        Reach::More => true,
     }
 }
 

@@ -6,24 +6,11 @@ ghost use Rattle.c_declarators.specs.Named.{reach_of};
 
 use crate::params::parameters_of;
 use c_input::Seen;
-use c_tree::{Attr, Declarator, Expr, Param, PointerQualifier, Spec};
+use c_specifiers::Attributes;
+use c_tree::{Declarator, Expr, Param, PointerQualifier, Spec};
 use sqlite_items::{Boxed, Items};
 use std::alloc::{AllocError, Global};
 use std::marker::Model;
-
-/// Where specifiers stand.
-#[derive(Clone, Copy)]
-pub enum Home {
-    /// At file scope.
-    File,
-    Block,
-    /// In a structure.
-    Member,
-    /// In a parameter or a type name.
-    Type,
-    /// At the front of a parameter that no bracket may begin.
-    Barred,
-}
 
 /// What a declarator declares.
 #[derive(Clone, Copy)]
@@ -250,21 +237,6 @@ impl Model for Specifiers {
     ghost coded = { Prim.hlevel (codes, trees.the_row.coded) };
 
     ghost view = { λ s. record { specs = s.specs; bracket = s.bracket } };
-}
-
-/// Attributes behind a parameter list, and the place of a `[` behind them that began none of them.
-#[derive(Drop)]
-pub struct Attributes {
-    pub attributes: Items<Attr>,
-    pub bracket: Option<u32>,
-}
-
-impl Model for Attributes {
-    ghost use Rattle.c_grammar.specs.Rules.{AttributesRead};
-
-    ghost Value = { AttributesRead };
-
-    ghost view = { λ a. record { attributes = a.attributes; bracket = a.bracket } };
 }
 
 /// Parameters with the texts of their names.

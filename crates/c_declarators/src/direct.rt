@@ -10,12 +10,12 @@ ghost use Rattle.c_declarators.specs.Named.{naming_of, bracket_of};
 ghost use Rattle.c_declarators.specs.Nested.{Nested};
 ghost use Rattle.c_declarators.specs.Starts.{function_parts, params_parts};
 
-use crate::attributes::attributes;
 use crate::begins::{begins_array, begins_name, begins_params, begins_step, may_lack, opened_at};
 use crate::declared::{Bracket, Declared, Naming, ParameterList};
 use crate::parser::Declarators;
 use c_grammar::Sign;
 use c_input::{Input, Limits, Read, Refusal};
+use c_specifiers::attributes;
 use c_tree::{Expr, Member};
 use sqlite_items::{Boxed, Items};
 use std::alloc::Global;
@@ -164,7 +164,7 @@ impl<
         self.params_rest(limits, left, input)
     }
 
-    /// Parameters in parentheses, of which the first is the next token.
+    /// A parameter list, whose `(` is the next token.
     #[tactic(auto, using(crate::proofs::Nesting::node_nests, c_input::proofs::Steps::within))]
     fn params_rest(
         &self,

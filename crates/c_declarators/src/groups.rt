@@ -7,18 +7,19 @@ ghost use Rattle.c_grammar.specs.Rules.{Group};
 ghost use Rattle.c_grammar.specs.Specifiers.{attr};
 ghost use Rattle.c_grammar.specs.Declarators.{group_bracket};
 ghost use Rattle.c_input.specs.Reads.{named, reads, Says};
-ghost use Rattle.c_declarators.specs.Named.{naming_of, bracket_of, home_of};
+ghost use Rattle.c_declarators.specs.Named.{naming_of, bracket_of};
 ghost use Rattle.c_declarators.specs.Nested.{Nested};
+ghost use Rattle.c_starts.specs.Homes.{home_of};
 ghost use Rattle.c_declarators.specs.Starts.{declarator_parts, list_parts, attribute_parts, group_parts};
 
-use crate::attributes::clang_words;
 use crate::begins::may_lack;
-use crate::declared::{Bracket, Declared, Home, Naming, ParameterList};
+use crate::declared::{Bracket, Declared, Naming, ParameterList};
 use crate::direct::function_rest;
-use crate::params::begins_list;
 use crate::parser::Declarators;
 use c_grammar::Sign;
 use c_input::{Input, Limits, Read, Refusal};
+use c_specifiers::clang_words;
+use c_starts::{Home, begins_specifiers};
 use c_tree::{Attr, AttrSpelling, AttrWord, Expr, Member, Spec};
 use sqlite_items::Items;
 use std::alloc::{AllocError, Global};
@@ -89,7 +90,7 @@ impl<
             let bracket = input.take();
             return self.bracket_rest(limits, naming, place, bracket.place(), input);
         }
-        if begins_list(true, input) {
+        if begins_specifiers(Home::Barred, input) {
             return self.list_rest(limits, Home::Barred, Items::new(self.alloc), place, input);
         }
         if input.is(Sign::CloseParen) {

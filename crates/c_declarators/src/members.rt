@@ -6,13 +6,11 @@ ghost use Rattle.c_input.specs.Reads.{named, reads, Says};
 ghost use Rattle.c_declarators.specs.Nested.{Nested};
 ghost use Rattle.c_declarators.specs.Parts.{member_line, enumerator};
 
-use crate::declared::{Bracket, Declared, Home, Naming};
-use crate::depth::{deeper, flat};
-use crate::names::is_ordinary_name;
+use crate::declared::{Bracket, Declared, Naming};
 use crate::parser::Declarators;
-use crate::place::specs_place;
 use c_grammar::Sign;
-use c_input::{Input, Limits, Read, Refusal};
+use c_input::{Input, Limits, Read, Refusal, deeper, flat};
+use c_starts::{Home, begins_ordinary_name, specs_place};
 use c_tree::{Declarator, Enumerator, Expr, Member, Span};
 use sqlite_items::{Boxed, Items};
 use std::alloc::Global;
@@ -31,7 +29,7 @@ impl<
     M: Fn(Global, Limits, &mut Input<'a>) -> Result<Read<Items<Member>>, Refusal>,
 > Declarators<C, D, M> {
     /// The declarators of a line of members, up to its `;`.
-    #[tactic(auto, using(crate::proofs::Lines::declarators, crate::proofs::Lines::declarators_go, crate::proofs::Lines::declarators_end, crate::proofs::Then::items_begin))]
+    #[tactic(auto, using(crate::proofs::Lines::declarators, crate::proofs::Lines::declarators_go, crate::proofs::Lines::declarators_end, c_input::proofs::Then::items_begin))]
     fn member_declarators(
         &self,
         limits: Limits,
@@ -82,7 +80,7 @@ impl<
     }
 
     /// The members of a structure, up to its `}`.
-    #[tactic(auto, using(crate::proofs::Lines::members, crate::proofs::Lines::members_go, crate::proofs::Lines::members_end, crate::proofs::Then::items_begin))]
+    #[tactic(auto, using(crate::proofs::Lines::members, crate::proofs::Lines::members_go, crate::proofs::Lines::members_end, c_input::proofs::Then::items_begin))]
     pub fn members(
         &self,
         limits: Limits,
@@ -115,7 +113,7 @@ impl<
         ensures reads { Says (reads (named limits.room) (enumerator input.old.scope) input.old.tokens) result input.new.tokens }
         ensures kept { IfOk result (λ read. input.new.scope ≡ input.old.scope) }
     {
-        if !is_ordinary_name(input) {
+        if !begins_ordinary_name(input) {
             return Err(Refusal::Refused(false));
         }
         let name = input.take().span();
@@ -134,7 +132,7 @@ impl<
     }
 
     /// The enumerators of an enumeration, up to its `}`.
-    #[tactic(auto, using(crate::proofs::Lines::enumerators, crate::proofs::Lines::enumerators_go, crate::proofs::Lines::enumerators_end, crate::proofs::Lines::enumerators_end_comma, crate::proofs::Then::items_begin))]
+    #[tactic(auto, using(crate::proofs::Lines::enumerators, crate::proofs::Lines::enumerators_go, crate::proofs::Lines::enumerators_end, crate::proofs::Lines::enumerators_end_comma, c_input::proofs::Then::items_begin))]
     pub fn enumerators(
         &self,
         limits: Limits,

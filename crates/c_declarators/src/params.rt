@@ -5,18 +5,19 @@ ghost use Rattle.c_grammar.specs.Rules.{Params, ParamList, TypeName as NamedType
 ghost use Rattle.c_grammar.specs.Trees.{specs_place};
 ghost use Rattle.c_grammar.specs.Specifiers.{after};
 ghost use Rattle.c_grammar.specs.Declarators.{parameters_of, param, join, no_params, hide};
-ghost use Rattle.c_input.specs.Input.{sees, with_scope};
+ghost use Rattle.c_input.specs.Input.{with_scope};
 ghost use Rattle.c_input.specs.Reads.{named, reads, Says};
 ghost use Rattle.c_input.specs.declared.read.Refusal.TheVariants.{NoMemory};
-ghost use Rattle.c_declarators.specs.Named.{home_of, bracket_of, text_of};
+ghost use Rattle.c_declarators.specs.Named.{bracket_of, text_of};
+ghost use Rattle.c_starts.specs.Homes.{home_of};
 ghost use Rattle.c_declarators.specs.Nested.{Nested};
-ghost use Rattle.c_declarators.specs.Parameters.{is_absent, lone_void, listed, one_param, with_param, starts_list};
+ghost use Rattle.c_declarators.specs.Parameters.{is_absent, lone_void, listed, one_param, with_param};
 
-use crate::declared::{Bracket, Declared, Home, Naming, ParameterList};
+use crate::declared::{Bracket, Declared, Naming, ParameterList};
 use crate::parser::Declarators;
-use crate::place::specs_place;
 use c_grammar::Sign;
 use c_input::{Input, Limits, Read, Refusal};
+use c_starts::{Home, begins_specifiers, specs_place};
 use c_tree::{Declarator, Expr, Member, Param, Parameters, Spec, TypeName, TypeWord};
 use sqlite_items::{Boxed, Items};
 use std::alloc::{AllocError, Global};
@@ -194,31 +195,6 @@ fn one_more<'a>(
     })
 }
 
-/// Whether parameters begin here.
-#[tactic(auto, using(c_input::proofs::Steps::sees_none, c_input::proofs::Steps::sees_head))]
-pub fn begins_list(barred: bool, input: &Input<'_>) -> bool
-    ensures { result ≡ sees (starts_list barred input.now.scope) input.now.tokens }
-{
-    if input.is_done() {
-        return false;
-    }
-    let seen = input.peek();
-    (seen.is_among(&[Sign::Inline, Sign::NoReturn]) && !input.is_in_block())
-        || seen.is_among(&[
-            Sign::Const,
-            Sign::Volatile,
-            Sign::Restrict,
-            Sign::Void,
-            Sign::Char,
-            Sign::Int,
-            Sign::Signed,
-            Sign::Unsigned,
-        ])
-        || (seen.is(Sign::Name) && input.is_type(seen.text()))
-        || seen.is_among(&[Sign::Struct, Sign::Enum, Sign::Attribute])
-        || (seen.is(Sign::OpenBracket) && !barred)
-}
-
 /// A name of a parameter is no typedef name from here on.
 fn hide<'a>(name: Option<&'a [u8]>, input: &mut Input<'a>) -> Result<(), Refusal>
     ensures hidden { OnOk result (input.new ≡ with_scope input.old (hide (text_of name.entry) input.old.scope)) }
@@ -269,7 +245,7 @@ impl<
         ensures reads { Says (named limits.room (Params input.old.scope) input.old.tokens) result input.new.tokens }
         ensures kept { IfOk result (λ read. input.new.scope ≡ input.old.scope) }
     {
-        if !begins_list(false, input) {
+        if !begins_specifiers(Home::Type, input) {
             return Ok(Read {
                 value: ParameterList::new(self.alloc),
                 depth: 0,

@@ -73,7 +73,7 @@ impl<
         (self.conditional)(self.alloc, limits.inside(), input)
     }
 
-    /// A conditional expression in a definition that is opened here.
+    /// The value of an enumerator, which counts as one more open definition.
     pub fn conditional_opened(
         &self,
         limits: Limits,

@@ -5,17 +5,19 @@ ghost use Rattle.c_grammar.specs.Lexemes.{Lexeme};
 ghost use Rattle.c_grammar.specs.Rules.{Specs};
 ghost use Rattle.c_grammar.specs.Specifiers.{no_specs};
 ghost use Rattle.c_input.specs.Reads.{named, Says};
-ghost use Rattle.c_declarators.specs.Named.{home_of};
+ghost use Rattle.c_starts.specs.Homes.{home_of};
 ghost use Rattle.c_declarators.specs.Nested.{Nested};
 ghost use Rattle.c_declarators.specs.Specified.{tagged_read, structure_read, enumeration_read, word_next, ended, bracket_read, next_read};
 
-use crate::attributes::{bracket_attribute, gnu_attribute};
-use crate::declared::{Bracket, Declared, Home, Naming, Specifiers};
-use crate::depth::{deeper, flat};
+use crate::declared::{Bracket, Declared, Naming, Specifiers};
 use crate::parser::Declarators;
-use crate::state::{SpecsState, is_abstract, next_home, opens_definition, spec_of, takes_bracket};
 use c_grammar::Sign;
-use c_input::{Input, Limits, Read, Refusal, Seen};
+use c_input::{Input, Limits, Read, Refusal, Seen, deeper, flat};
+use c_specifiers::{
+    SpecsState, bracket_attribute, gnu_attribute, is_abstract, next_home, opens_definition,
+    spec_of, takes_bracket,
+};
+use c_starts::Home;
 use c_tree::{Attr, Expr, Member, Span, Spec};
 use sqlite_items::Items;
 use std::alloc::Global;

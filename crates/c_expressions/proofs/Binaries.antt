@@ -22,7 +22,7 @@ use Rattle.c_expressions.specs.declared.wanted.Operators.TheVariants as o
 use Rattle.c_expressions.specs.Climbing.{looseness, level_at, operators_of, between, next_level, open_chain, chains, climbs}
 use Rattle.c_expressions.specs.Named.{level_of, right_of}
 use Rattle.c_expressions.specs.Nodes.{binary_node, on_right}
-use Rattle.c_expressions.proofs.Prefixes.{passes}
+use Rattle.c_input.proofs.Choices.{passed}
 use Rattle.c_expressions.proofs.Chains.{binary_step_node}
 
 -- levels and their numbers
@@ -141,7 +141,7 @@ module _ (room : ℕ) (s : Scope) where
   over_tighter l m ts e =
       chain_rule room (Binary l s) (tighter l s Return) (binary_step l s) refl ts
       ∙ ap (λ g. after (λ x d us. past room (Binary l s) x d us) (reads (named room) g ts)) e
-      ∙ ap (λ p. after (λ x d us. past room (Binary l s) x d us) p) (passes (named room (Binary m s) ts))
+      ∙ ap (λ p. after (λ x d us. past room (Binary l s) x d us) p) (passed (named room (Binary m s) ts))
 
   over_number : (n : ℕ) (ts : List Lexeme) → n < 9
       → named room (Binary (level_at (suc n)) s) ts
@@ -164,7 +164,7 @@ module _ (room : ℕ) (s : Scope) where
       → named room (Binary (level_at n) s) ts ≡ after (λ x d us. chains room s 0 (suc n) x d us) (named room (Operand CastFront s) ts)
   begins_at zero ts l =
       chain_rule room (Binary Product s) (Call (Operand CastFront s) Return) (binary_step Product s) refl ts
-      ∙ ap (λ p. after (λ x d us. past room (Binary Product s) x d us) p) (passes (named room (Operand CastFront s) ts))
+      ∙ ap (λ p. after (λ x d us. past room (Binary Product s) x d us) p) (passed (named room (Operand CastFront s) ts))
   begins_at (suc n) ts l =
       over_number n ts (omega arith)
       ∙ ap (λ p. after (λ x d us. past room (Binary (level_at (suc n)) s) x d us) p) (begins_at n ts (omega arith))

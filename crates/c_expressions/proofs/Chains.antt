@@ -17,12 +17,12 @@ use Rattle.c_input.specs.Reads.{named, past, reads, joined}
 use Rattle.c_input.proofs.Steps as steps
 use Rattle.c_input.proofs.Steps.{chain_rule, past_ends, past_full, past_goes}
 use Rattle.c_expressions.specs.Nodes.{binary_node, assignment_node, asks, assigns, branches}
-use Rattle.c_expressions.proofs.Prefixes.{passes}
+use Rattle.c_input.proofs.Choices.{passed}
 
 pub expression_begins : (room : ℕ) (s : Scope) (ts : List Lexeme)
     → named room (Expression s) ts ≡ after (λ x d us. past room (Expression s) x d us) (named room (Assignment s) ts)
 expression_begins room s ts =
-    chain_rule room (Expression s) (Call (Assignment s) Return) (comma_step s) refl ts ∙ ap (λ o. after (λ x d us. past room (Expression s) x d us) o) (passes (named room (Assignment s) ts))
+    chain_rule room (Expression s) (Call (Assignment s) Return) (comma_step s) refl ts ∙ ap (λ o. after (λ x d us. past room (Expression s) x d us) o) (passed (named room (Assignment s) ts))
 
 pub expression_ends : (room : ℕ) (s : Scope) (x : Expr) (d : ℕ) (ts : List Lexeme) → sees (is k.Comma) ts ≡ false → past room (Expression s) x d ts ≡ Got x d ts
 expression_ends room s x d ts e = past_ends room (Expression s) (Call (Assignment s) Return) (comma_step s) refl x d ts e
@@ -33,7 +33,7 @@ expression_full room s x d ts e l = past_full room (Expression s) (Call (Assignm
 pub assignment_begins : (room : ℕ) (s : Scope) (ts : List Lexeme)
     → named room (Assignment s) ts ≡ after (λ x d us. past room (Assignment s) x d us) (named room (Conditional s) ts)
 assignment_begins room s ts =
-    chain_rule room (Assignment s) (Call (Conditional s) Return) (assignment_step s) refl ts ∙ ap (λ o. after (λ x d us. past room (Assignment s) x d us) o) (passes (named room (Conditional s) ts))
+    chain_rule room (Assignment s) (Call (Conditional s) Return) (assignment_step s) refl ts ∙ ap (λ o. after (λ x d us. past room (Assignment s) x d us) o) (passed (named room (Conditional s) ts))
 
 pub assignment_ends : (room : ℕ) (s : Scope) (x : Expr) (d : ℕ) (ts : List Lexeme) → sees (assigns x) ts ≡ false → past room (Assignment s) x d ts ≡ Got x d ts
 assignment_ends room s x d ts e = past_ends room (Assignment s) (Call (Conditional s) Return) (assignment_step s) refl x d ts e
@@ -44,7 +44,7 @@ assignment_full room s x d ts e l = past_full room (Assignment s) (Call (Conditi
 pub conditional_begins : (room : ℕ) (s : Scope) (ts : List Lexeme)
     → named room (Conditional s) ts ≡ after (λ x d us. past room (Conditional s) x d us) (named room (Binary OrOr s) ts)
 conditional_begins room s ts =
-    chain_rule room (Conditional s) (Call (Binary OrOr s) Return) (conditional_step s) refl ts ∙ ap (λ o. after (λ x d us. past room (Conditional s) x d us) o) (passes (named room (Binary OrOr s) ts))
+    chain_rule room (Conditional s) (Call (Binary OrOr s) Return) (conditional_step s) refl ts ∙ ap (λ o. after (λ x d us. past room (Conditional s) x d us) o) (passed (named room (Binary OrOr s) ts))
 
 pub conditional_ends : (room : ℕ) (s : Scope) (x : Expr) (d : ℕ) (ts : List Lexeme) → sees (asks x) ts ≡ false → past room (Conditional s) x d ts ≡ Got x d ts
 conditional_ends room s x d ts e = past_ends room (Conditional s) (Call (Binary OrOr s) Return) (conditional_step s) refl x d ts e

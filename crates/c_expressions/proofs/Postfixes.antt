@@ -1,5 +1,5 @@
 -- Postfix expressions: each rule as an equation.
-use Rattle.std.proofs.Common.{◌≡◌, refl, ℕ, ◌-◌, ◌<◌, ◌≤◌, zero, max, Bool, true, false, cond, not, ◌&&◌, ◌||◌, List, [], ◌∷◌, ◌++◌, ap, sym, ◌∙◌, append_assoc, arith}
+use Rattle.std.proofs.Common.{◌≡◌, refl, ℕ, suc, length, ◌-◌, ◌<◌, ◌≤◌, zero, max, Bool, true, false, cond, not, ◌&&◌, ◌||◌, List, [], ◌∷◌, ◌++◌, ap, sym, ◌∙◌, append_assoc, arith}
 use Rattle.grammar.specs.Parts.{Return, Call}
 use Rattle.grammar.specs.Parser.{Outcome, Got, Bad, begins, after, deepen}
 use Rattle.c_tree.specs.declared.expressions.Expr.{Expr}
@@ -7,30 +7,23 @@ use Rattle.c_grammar.specs.declared.Sign.TheVariants as k
 use Rattle.c_grammar.specs.Lexemes.{Lexeme, is, is_among}
 use Rattle.c_grammar.specs.Trees.{is_cast}
 use Rattle.c_grammar.specs.Rules.{Scope, Front, Primary, Postfix, Assignment, Arguments, MoreArguments}
-use Rattle.c_grammar.specs.Expressions.{arguments, more_arguments, postfix_step}
+use Rattle.c_tree.specs.declared.expressions.AccessOperator.TheVariants as access
+use Rattle.c_grammar.specs.Expressions.{Reading, arguments, more_arguments, postfix_step}
 use Rattle.c_grammar.specs.Grammar.{c_hints, steps, starts_expression}
 use Rattle.c_input.specs.Input.{sees, behind}
 use Rattle.c_input.specs.Reads.{named, past, reads, joined, behind_items}
-use Rattle.c_expressions.specs.Parts.{arguments_reads, goes_on, step_reads}
-use Rattle.c_expressions.proofs.Primaries.{or_false}
+use Rattle.c_expressions.specs.Parts.{arguments_reads, goes_on, index_rest, call_rest, access_rest, step_reads}
+use Rattle.c_input.proofs.Choices.{sees_first, or_false, passed}
+use Rattle.c_input.proofs.Then.{deepen_none, behind_falls}
 use Rattle.c_input.proofs.Steps as rule
 
 -- arguments
-deepen_none : {A : Type 0} (o : Outcome Lexeme A) → deepen zero o ≡ o
-deepen_none (Got x d left) = ap (λ n. Got x n left) (omega arith)
-deepen_none (Bad deep left) = refl
-
-starts_arguments : (s : Scope) (ts : List Lexeme) → sees (λ t. starts_expression s t || false) ts ≡ sees (starts_expression s) ts
-unfolding sees
-starts_arguments s [] = refl
-starts_arguments s (t ∷ ts) = or_false (starts_expression s t)
-
 arguments_rule : (room : ℕ) (s : Scope) (ts : List Lexeme)
     → named room (Arguments s) ts ≡ cond (sees (starts_expression s) ts) (arguments_reads room s ts) (Got [] 0 ts)
 unfolding arguments_reads
 arguments_rule room s ts =
     rule.plain_rule room (Arguments s) ts (arguments s) refl
-    ∙ ap (λ b. cond b (arguments_reads room s ts) (Got [] 0 ts)) (starts_arguments s ts)
+    ∙ ap (λ b. cond b (arguments_reads room s ts) (Got [] 0 ts)) (sees_first (starts_expression s) ts)
 
 more_rule : (room : ℕ) (s : Scope) (ts : List Lexeme)
     → named room (MoreArguments s) ts ≡ cond (sees (is k.Comma) ts) (arguments_reads room s (behind ts)) (Got [] 0 ts)
@@ -129,17 +122,56 @@ step_rule room s a (t ∷ ts) e =
     rw e (once _ _ _ _ (is k.OpenBracket t) (once _ _ _ _ (is k.OpenParen t) (once _ _ _ _ (is k.Dot t) (once _ _ _ _ (is k.Arrow t)
     (once _ _ _ _ (is k.Increment t) (rw (and_true (is k.Decrement t))))))))
 
--- a postfix expression: its beginning, and its rest
-call_only : (o : Outcome Lexeme Expr) → after (λ a depth left. deepen depth (Got a zero left)) o ≡ o
-call_only (Got a d left) = ap (λ n. Got a n left) (rule.max_zero d)
-call_only (Bad deep left) = refl
+-- A step is no deeper than its room, and it takes a token.
+module _ (room : ℕ) (s : Scope) (a : Expr) (ts : List Lexeme) where
+  abbrev IsBounded : Outcome Lexeme Expr → Type 0
+  IsBounded (Got y d us) = (d ≤ room) × (length us < length ts)
+  IsBounded (Bad deep us) = Unit {0}
 
+  pick : (b : Bool) (o p : Outcome Lexeme Expr) → (b ≡ true → IsBounded o) → IsBounded p → IsBounded (cond b o p)
+  pick true o p f g = f refl
+  pick false o p f g = g
+
+  parts_bounded : (g : Reading Expr) (test : Lexeme → Bool) → sees test ts ≡ true → IsBounded (reads (named room) g (behind ts))
+  parts_bounded g test e = go (reads (named room) g (behind ts)) refl
+    where
+      go : (o : Outcome Lexeme Expr) → reads (named room) g (behind ts) ≡ o → IsBounded o
+      go (Got y d us) h = (rule.reads_within room g (behind ts) y d us h, behind_falls room g test ts e y d us h)
+      go (Bad deep us) h = tt
+
+  token_bounded : (test : Lexeme → Bool) → sees test ts ≡ true → (zero ≤ room) × (length (behind ts) < length ts)
+  token_bounded test e = let less = rule.sees_less test ts e in (omega arith, less)
+
+  step_bounded : IsBounded (step_reads room s a ts)
+  step_bounded =
+      pick _ _ _ (λ e. parts_bounded (index_rest s a) (is k.OpenBracket) e)
+      (pick _ _ _ (λ e. parts_bounded (call_rest s a) (is k.OpenParen) e)
+      (pick _ _ _ (λ e. parts_bounded (access_rest a access.Dot) (is k.Dot) e)
+      (pick _ _ _ (λ e. parts_bounded (access_rest a access.Arrow) (is k.Arrow) e)
+      (pick _ _ _ (λ e. token_bounded (is k.Increment) e)
+      (pick _ _ _ (λ e. token_bounded (is k.Decrement) e) tt)))))
+
+  joined_bounded : (c : ℕ) (o : Outcome Lexeme Expr) → IsBounded o → (y : Expr) (e : ℕ) (us : List Lexeme) → joined c o ≡ Got y e us → c ≤ room
+      → (e ≤ suc room) × (length us < length ts)
+  joined_bounded c (Got x d vs) b y e us h l =
+      let deep : suc (max c d) ≡ e = cc in let rest : vs ≡ us = cc in let below : suc (max c d) ≤ suc room = omega (arith, b.0) in (rw deep at below, rw rest at b.1)
+  joined_bounded c (Bad deep vs) b y e us h l = let clash : ⊥ = cc in absurd clash
+
+module _ (room : ℕ) (s : Scope) (a : Expr) (ts : List Lexeme) (c : ℕ) (y : Expr) (e : ℕ) (us : List Lexeme) (l : c < room)
+    (h : joined c (step_reads (room - 1) s a ts) ≡ Got y e us) where
+  pub step_within : e ≤ room
+  step_within = let b = (joined_bounded (room - 1) s a ts c _ (step_bounded (room - 1) s a ts) y e us h (omega arith)).0 in omega arith
+
+  pub step_falls : length us < length ts
+  step_falls = (joined_bounded (room - 1) s a ts c _ (step_bounded (room - 1) s a ts) y e us h (omega arith)).1
+
+-- a postfix expression: its beginning, and its rest
 module _ (room : ℕ) (f : Front) (s : Scope) where
   pub postfix_rule : (ts : List Lexeme)
       → named room (Postfix f s) ts ≡ after (λ x d us. past room (Postfix f s) x d us) (named room (Primary f s) ts)
   postfix_rule ts =
       rule.chain_rule room (Postfix f s) (Call (Primary f s) Return) (postfix_step s) refl ts
-      ∙ ap (λ o. after (λ x d us. past room (Postfix f s) x d us) o) (call_only (named room (Primary f s) ts))
+      ∙ ap (λ o. after (λ x d us. past room (Postfix f s) x d us) o) (passed (named room (Primary f s) ts))
 
   pub postfix_ends : (x : Expr) (d : ℕ) (ts : List Lexeme) → goes_on x ts ≡ false → past room (Postfix f s) x d ts ≡ Got x d ts
   postfix_ends x d ts e =
@@ -156,3 +188,10 @@ module _ (room : ℕ) (f : Front) (s : Scope) where
       rule.past_goes room (Postfix f s) (Call (Primary f s) Return) (postfix_step s) refl x d ts (begins_step s x ts ∙ e) l
       ∙ ap (λ o. after (λ y deeper us. past room (Postfix f s) y deeper us) (joined d o))
       (step_rule (room - 1) s x ts (goes_on_cast (is_cast x) (sees (is_among steps) ts) e))
+
+  -- one step more behind what was read so far
+  pub postfix_on : (start : List Lexeme) (x : Expr) (d : ℕ) (ts : List Lexeme) (here : Scope) (y : Expr) (e : ℕ) (us : List Lexeme)
+      → named room (Postfix f s) start ≡ past room (Postfix f s) x d ts → here ≡ s → goes_on x ts ≡ true → d < room
+      → joined d (step_reads (room - 1) here x ts) ≡ Got y e us → named room (Postfix f s) start ≡ past room (Postfix f s) y e us
+  postfix_on start x d ts here y e us h same g l j =
+      h ∙ postfix_goes x d ts g l ∙ ap (λ o. after (λ z deeper left. past room (Postfix f s) z deeper left) o) (rw same at j)

@@ -1,6 +1,5 @@
 -- Operands, and operators before them: each rule as an equation.
 use Rattle.std.proofs.Common.{◌≡◌, refl, ℕ, suc, ◌-◌, ◌<◌, ◌≤◌, Bool, true, false, cond, List, [], ◌∷◌, length, ap, ◌∙◌}
-use Rattle.std.proofs.Math.Bool.{or-false}
 use Rattle.grammar.specs.Parts.{Return, Call}
 use Rattle.grammar.specs.Parser.{Outcome, Got, Bad, begins, after, deepen, one_more}
 use Rattle.c_tree.specs.declared.expressions.Expr.{Expr}
@@ -13,43 +12,25 @@ use Rattle.c_grammar.specs.Rules.{Rule, ValueOf, Scope, Front, CastFront, UnaryF
 use Rattle.c_grammar.specs.Expressions.{Reading, operand, prefix, cast_operators}
 use Rattle.c_grammar.specs.Specifiers.{no_specs}
 use Rattle.c_grammar.specs.Grammar.{c_hints, starts_specs, starts_prefix}
-use Rattle.c_grammar.proofs.Fit.{c_grammar_fits}
 use Rattle.c_input.specs.Input.{head, behind, sees}
 use Rattle.c_input.specs.Reads.{named, reads}
 use Rattle.c_input.proofs.Steps as steps
 use Rattle.c_input.proofs.Steps.{plain_rule, node_rule, full_rule, within, shorter}
+use Rattle.c_input.proofs.Choices.{sees_first, passed, either}
 use Rattle.c_expressions.specs.declared.wanted.Wanted.{Wanted}
 use Rattle.c_expressions.specs.declared.wanted.Wanted.TheVariants as wanted
 use Rattle.c_expressions.specs.declared.wanted.Operators.TheVariants as operators
 use Rattle.c_expressions.specs.Named.{named_expression}
 use Rattle.c_expressions.specs.Nodes.{unary_node, operation, prefix_first, sized, type_part}
 
--- what a part that is one rule reads
-pub passes : {A : Type 0} (o : Outcome Lexeme A) → after (λ a depth left. deepen depth (Got a 0 left)) o ≡ o
-passes (Got a d left) = ap (λ n. Got a n left) (steps.max_zero d)
-passes (Bad deep left) = refl
-
--- tests that agree at each token
-pub same_test : (one other : Lexeme → Bool) → ((t : Lexeme) → one t ≡ other t) → (ts : List Lexeme) → sees one ts ≡ sees other ts
-unfolding sees
-same_test one other h [] = refl
-same_test one other h (t ∷ ts) = h t
-
 abbrev prefix_part : Scope → Reading Expr
 prefix_part s = Call (Prefix s) Return
-
-begins_a_prefix : (s : Scope) (t : Lexeme) → begins c_hints (prefix_part s) t ≡ begins c_hints (prefix s) t
-begins_a_prefix s t = or-false (starts_prefix t) ∙ (c_grammar_fits (Prefix s)).1.0 t
-
-two_ways : {A : Type 0} (b c : Bool) (x y z w : A) → b ≡ c → x ≡ z → y ≡ w → cond b x y ≡ cond c z w
-two_ways b c x y z w e f g = rw (e, f, g) refl
 
 plain_operand : (room : ℕ) (f : Front) (s : Scope) (ts : List Lexeme)
     → cond (sees (begins c_hints (prefix_part s)) ts)
     (after (λ a depth left. deepen depth (Got a 0 left)) (named room (Prefix s) ts)) (after (λ a depth left. deepen depth (Got a 0 left)) (named room (Postfix f s) ts))
-    ≡ cond (sees (begins c_hints (prefix s)) ts) (named room (Prefix s) ts) (named room (Postfix f s) ts)
-plain_operand room f s ts =
-    two_ways _ _ _ _ _ _ (same_test _ _ (begins_a_prefix s) ts) (passes (named room (Prefix s) ts)) (passes (named room (Postfix f s) ts))
+    ≡ cond (sees starts_prefix ts) (named room (Prefix s) ts) (named room (Postfix f s) ts)
+plain_operand room f s ts = either (sees_first starts_prefix ts) (passed (named room (Prefix s) ts)) (passed (named room (Postfix f s) ts))
 
 pub an_operand : (room : ℕ) (f : Front) (s : Scope) (ts : List Lexeme)
     → named room (Operand f s) ts ≡ cond (prefix_first f s ts) (named room (Prefix s) ts) (named room (Postfix f s) ts)
@@ -57,10 +38,10 @@ an_operand room CastFront s ts = plain_rule room (Operand CastFront s) ts (opera
 an_operand room UnaryFront s ts = plain_rule room (Operand UnaryFront s) ts (operand UnaryFront s) refl ∙ plain_operand room UnaryFront s ts
 an_operand room BareFront s ts = plain_rule room (Operand BareFront s) ts (operand BareFront s) refl ∙ plain_operand room BareFront s ts
 an_operand room (OpenedFront p) s ts =
-    plain_rule room (Operand (OpenedFront p) s) ts (operand (OpenedFront p) s) refl ∙ passes (named room (Postfix (OpenedFront p) s) ts)
+    plain_rule room (Operand (OpenedFront p) s) ts (operand (OpenedFront p) s) refl ∙ passed (named room (Postfix (OpenedFront p) s) ts)
 
 pub no_prefix : (room : ℕ) (s : Scope) (ts : List Lexeme) → room ≡ 0
-    → named room (Prefix s) ts ≡ Bad (sees (begins c_hints (prefix s)) ts) ts
+    → named room (Prefix s) ts ≡ Bad (sees starts_prefix ts) ts
 no_prefix room s ts e = full_rule room (Prefix s) ts (prefix s) refl e
 
 -- a node of an operator and what is read behind it
@@ -87,11 +68,8 @@ unfolding sized
 a_prefix room s ts l =
     node_rule room (Prefix s) ts (prefix s) refl l
     ∙ asked_once (sees (is_among (k.Increment ∷ k.Decrement ∷ [])) ts) _ _ _
-    ∙ two_ways _ _ _ _ _ _ refl (node_of _ _ _)
-    (asked_once (sees (is_among cast_operators) ts) _ _ _ ∙ two_ways _ _ _ _ _ _ refl (node_of _ _ _) (one_of_two (sees (is k.Sizeof) ts) _ _))
-
-begins_a_type : (s : Scope) (p : ℕ) (t : Lexeme) → begins c_hints (type_part s p) t ≡ starts_specs TypeHome s no_specs t
-begins_a_type s p t = or-false (starts_specs TypeHome s no_specs t)
+    ∙ either refl (node_of _ _ _)
+    (asked_once (sees (is_among cast_operators) ts) _ _ _ ∙ either refl (node_of _ _ _) (one_of_two (sees (is k.Sizeof) ts) _ _))
 
 pub a_size : (room : ℕ) (s : Scope) (p : ℕ) (ts : List Lexeme)
     → sized room s p ts
@@ -102,8 +80,8 @@ pub a_size : (room : ℕ) (s : Scope) (p : ℕ) (ts : List Lexeme)
 unfolding sized
 a_size room s p ts =
     asked_once (sees (is k.OpenParen) ts) _ _ _
-    ∙ two_ways _ _ _ _ _ _ refl
-    (one_of_two (sees (begins c_hints (type_part s p)) (behind ts)) _ _ ∙ two_ways _ _ _ _ _ _ (same_test _ _ (begins_a_type s p) (behind ts)) refl (node_of _ _ _))
+    ∙ either refl
+    (one_of_two (sees (begins c_hints (type_part s p)) (behind ts)) _ _ ∙ either (sees_first (starts_specs TypeHome s no_specs) (behind ts)) refl (node_of _ _ _))
     (node_of _ _ _)
 
 -- an expression is no deeper than its room, and leaves no more tokens

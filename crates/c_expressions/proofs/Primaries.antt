@@ -10,15 +10,16 @@ use Rattle.c_grammar.specs.Lexemes.{Lexeme, is, span, place}
 use Rattle.c_grammar.specs.Rules.{Scope, Front, CastFront, UnaryFront, BareFront, OpenedFront, TypeHome, Primary, Texts}
 use Rattle.c_grammar.specs.Specifiers.{no_specs}
 use Rattle.c_grammar.specs.Expressions.{Reading, word, is_plain_name, primary, bare_primary, texts, inside, cast_rest}
-use Rattle.c_grammar.specs.Grammar.{c_hints, starts_expression, starts_specs}
+use Rattle.c_grammar.specs.Grammar.{c_hints, starts_primary, starts_specs}
 use Rattle.c_grammar.proofs.Every.{all}
 use Rattle.c_input.specs.Input.{sees, head, behind}
 use Rattle.c_input.specs.Reads.{named, reads, behind_items}
+use Rattle.c_input.proofs.Choices.{sees_first}
 use Rattle.c_expressions.specs.Parts.{bare_reads, opened_reads, primary_reads}
 use Rattle.c_input.proofs.Steps.{plain_rule, node_rule, full_rule, behind_none, behind_both, item_first, items_end}
 
 pub no_primary : (room : ℕ) (f : Front) (s : Scope) (ts : List Lexeme) → room ≡ 0
-    → named room (Primary f s) ts ≡ Bad (sees (begins c_hints (primary f s)) ts) ts
+    → named room (Primary f s) ts ≡ Bad (sees (starts_primary f s) ts) ts
 no_primary room f s ts e = full_rule room (Primary f s) ts (primary f s) refl e
 
 -- adjacent texts, which need no room
@@ -54,20 +55,8 @@ same_bare : (room : ℕ) (s : Scope) (ts : List Lexeme) → reads (named room) (
 unfolding bare_reads
 same_bare room s ts = rw (same_texts room (behind ts))
 
--- what begins an expression, and a type name
-pub or_false : (b : Bool) → b || false ≡ b
-or_false true = refl
-or_false false = refl
-
-pub begins_inside : (s : Scope) (p : ℕ) (ts : List Lexeme) → sees (begins c_hints (inside s p)) ts ≡ sees (starts_expression s) ts
-unfolding sees
-begins_inside s p [] = refl
-begins_inside s p (t ∷ ts) = or_false (starts_expression s t)
-
 begins_cast : (s : Scope) (p : ℕ) (ts : List Lexeme) → sees (begins c_hints (cast_rest s p)) ts ≡ sees (starts_specs TypeHome s no_specs) ts
-unfolding sees
-begins_cast s p [] = refl
-begins_cast s p (t ∷ ts) = or_false (starts_specs TypeHome s no_specs t)
+begins_cast s p ts = sees_first (starts_specs TypeHome s no_specs) ts
 
 opened_rule : (room : ℕ) (s : Scope) (p : ℕ) (ts : List Lexeme)
     → reads (named room) (Either (cast_rest s p) (inside s p)) ts ≡ opened_reads room s p ts

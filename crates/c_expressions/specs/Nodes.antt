@@ -1,7 +1,7 @@
 -- Nodes of an operator and what is read beside it, and the parts of rules that functions of their own read.
 use Rattle.std.specs.Prelude.{ℕ, suc, max, Bool, false, not, ◌&&◌, List}
 use Rattle.grammar.specs.Parts.{Return, Call}
-use Rattle.grammar.specs.Parser.{Outcome, Got, Bad, begins, one_more}
+use Rattle.grammar.specs.Parser.{Outcome, Got, Bad, one_more}
 use Rattle.c_tree.specs.declared.expressions.Expr.{Expr}
 use Rattle.c_tree.specs.declared.expressions.Expr.TheVariants as tree
 use Rattle.c_tree.specs.declared.expressions.UnaryOperator.{UnaryOperator}
@@ -11,8 +11,8 @@ use Rattle.c_grammar.specs.declared.Sign.TheVariants as k
 use Rattle.c_grammar.specs.Lexemes.{Lexeme, place, is, is_among}
 use Rattle.c_grammar.specs.Trees.{place_of, is_conditional, is_unary}
 use Rattle.c_grammar.specs.Rules.{Scope, Front, OpenedFront, Expression, Conditional, TypeName}
-use Rattle.c_grammar.specs.Expressions.{Reading, word, prefix, sizeof_parts, assignment_operators, unary_operator}
-use Rattle.c_grammar.specs.Grammar.{c_hints}
+use Rattle.c_grammar.specs.Expressions.{Reading, word, sizeof_parts, assignment_operators, unary_operator}
+use Rattle.c_grammar.specs.Grammar.{starts_prefix}
 use Rattle.c_input.specs.Input.{sees}
 use Rattle.c_input.specs.Reads.{named, reads}
 use Rattle.c_expressions.specs.declared.wanted.Wanted.{Wanted}
@@ -40,7 +40,7 @@ assignment_node a depth operator p (Bad deep left) = Bad deep left
 -- an operand begins with an operator
 abbrev pub prefix_first : Front → Scope → List Lexeme → Bool
 prefix_first (OpenedFront place) s ts = false
-prefix_first f s ts = sees (begins c_hints (prefix s)) ts
+prefix_first f s ts = sees starts_prefix ts
 
 -- a type name behind `sizeof (`
 abbrev pub type_part : Scope → ℕ → Reading Expr

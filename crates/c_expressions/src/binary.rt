@@ -13,10 +13,10 @@ ghost use Rattle.c_expressions.specs.Nodes.{binary_node, on_right};
 ghost use Rattle.c_expressions.specs.Nested.{Nested};
 
 use crate::parser::Expressions;
-use crate::place::place_of;
 use crate::wanted::{Front, Operators, Wanted};
 use c_grammar::Sign;
 use c_input::{Input, Limits, Read, Refusal};
+use c_starts::place_of;
 use c_tree::{BinaryOperator, Expr, TypeName};
 use sqlite_items::Boxed;
 use std::alloc::{AllocError, Global};

@@ -5,12 +5,10 @@ mod binary;
 mod choice;
 mod expression;
 mod parser;
-mod place;
 mod postfix;
 mod prefix;
 mod primary;
 mod wanted;
 
 pub use parser::Expressions;
-pub use place::place_of;
 pub use wanted::{Front, Operators, Wanted};

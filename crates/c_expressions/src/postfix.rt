@@ -1,7 +1,7 @@
 //! Postfix expressions (C17 6.5.2).
 
-ghost use Rattle.std.specs.Prelude.{◌≡◌, ◌+◌, ◌*◌, ◌<◌, ◌≤◌, ◌-◌, length, IfOk, IfErr};
-ghost use Rattle.c_grammar.specs.Trees.{place_of};
+ghost use Rattle.std.specs.Prelude.{◌≡◌, ◌+◌, ◌*◌, ◌<◌, ◌-◌, max, IfOk, IfErr};
+ghost use Rattle.c_grammar.specs.Trees.{place_of, is_cast};
 ghost use Rattle.c_grammar.specs.Rules.{Arguments, Postfix};
 ghost use Rattle.c_input.specs.Reads.{named, reads, joined, Says};
 ghost use Rattle.c_expressions.specs.Named.{front_of};
@@ -9,14 +9,23 @@ ghost use Rattle.c_expressions.specs.Parts.{goes_on, index_rest, call_rest, acce
 ghost use Rattle.c_expressions.specs.Nested.{Nested};
 
 use crate::parser::Expressions;
-use crate::place::{is_cast, place_of};
-use crate::primary::begins_expression;
 use crate::wanted::{Front, Wanted};
 use c_grammar::Sign;
 use c_input::{Input, Limits, Read, Refusal};
-use c_tree::{AccessOperator, Expr, StepOperator, TypeName};
+use c_starts::{begins_expression, place_of};
+use c_tree::{AccessOperator, Expr, Span, StepOperator, TypeName};
 use sqlite_items::{Boxed, Items};
 use std::alloc::Global;
+
+/// Whether the expression is a cast.
+fn is_cast(expression: &Expr) -> bool
+    ensures { result ≡ is_cast expression.now }
+{
+    match expression {
+        Expr::Cast(_, _, _) => true,
+        _ => false,
+    }
+}
 
 /// Whether a step of a postfix expression stands here, behind this expression.
 #[tactic(auto, unfolding(crate::specs::Parts::goes_on))]
@@ -33,8 +42,55 @@ fn goes_on(left: &Expr, input: &Input<'_>) -> bool
     ]) && !is_cast(left)
 }
 
+/// A member of what was read.
+fn accessed(
+    alloc: Global,
+    left: Read<Expr>,
+    operator: AccessOperator,
+    member: Span,
+) -> Result<Read<Expr>, Refusal>
+    requires { left.depth < u32.MAX }
+    ensures value { IfOk result (λ read. read ≡ record { value = Expr.Access (place_of left.value) left.value operator member; depth = left.depth + 1 }) }
+    ensures memory { IfErr result (λ refusal. refusal ≡ Refusal.NoMemory) }
+{
+    let place = place_of(&left.value);
+    Ok(Read {
+        value: Expr::Access(place, Boxed::new(alloc, left.value)?, operator, member),
+        depth: left.depth + 1,
+    })
+}
+
+/// What was read, at an index.
+fn indexed(alloc: Global, left: Read<Expr>, at: Read<Expr>) -> Result<Read<Expr>, Refusal>
+    requires { max left.depth at.depth < u32.MAX }
+    ensures value { IfOk result (λ read. read ≡ record { value = Expr.Index (place_of left.value) left.value at.value; depth = max left.depth at.depth + 1 }) }
+    ensures memory { IfErr result (λ refusal. refusal ≡ Refusal.NoMemory) }
+{
+    let depth = left.depth.max(at.depth) + 1;
+    let place = place_of(&left.value);
+    let array = Boxed::new(alloc, left.value)?;
+    Ok(Read {
+        value: Expr::Index(place, array, Boxed::new(alloc, at.value)?),
+        depth,
+    })
+}
+
+/// A call of what was read.
+fn called(alloc: Global, left: Read<Expr>, given: Read<Items<Expr>>) -> Result<Read<Expr>, Refusal>
+    requires { max left.depth given.depth < u32.MAX }
+    ensures value { IfOk result (λ read. read ≡ record { value = Expr.Call (place_of left.value) left.value given.value; depth = max left.depth given.depth + 1 }) }
+    ensures memory { IfErr result (λ refusal. refusal ≡ Refusal.NoMemory) }
+{
+    let depth = left.depth.max(given.depth) + 1;
+    let place = place_of(&left.value);
+    Ok(Read {
+        value: Expr::Call(place, Boxed::new(alloc, left.value)?, given.value),
+        depth,
+    })
+}
+
 /// The member that is accessed behind `.` or `->`.
-#[tactic(auto, using(c_input::proofs::Steps::max_zero, c_input::proofs::Steps::sees_less))]
+#[tactic(auto, using(c_input::proofs::Steps::max_zero))]
 fn access(
     alloc: Global,
     left: Read<Expr>,
@@ -44,18 +100,12 @@ fn access(
     requires { left.depth < u32.MAX }
     ensures reads { Says (joined left.depth (reads (named 0) (access_rest left.value operator) input.old.tokens)) result input.new.tokens }
     ensures kept { IfOk result (λ read. input.new.scope ≡ input.old.scope) }
-    ensures depth { IfOk result (λ read. read.depth ≡ left.depth + 1) }
-    ensures shorter { IfOk result (λ read. length input.new.tokens ≤ length input.old.tokens) }
 {
     if !input.is(Sign::Name) {
         return Err(Refusal::Refused(false));
     }
     let member = input.take().span();
-    let place = place_of(&left.value);
-    Ok(Read {
-        value: Expr::Access(place, Boxed::new(alloc, left.value)?, operator, member),
-        depth: left.depth + 1,
-    })
+    accessed(alloc, left, operator, member)
 }
 
 /// A `++` or `--` behind what was read.
@@ -106,7 +156,7 @@ impl<
     }
 
     /// The index in brackets, up to its end.
-    #[tactic(auto, using(c_input::proofs::Steps::within, c_input::proofs::Steps::shorter, c_input::proofs::Steps::sees_less, c_input::proofs::Steps::max_zero))]
+    #[tactic(auto, using(c_input::proofs::Steps::within, c_input::proofs::Steps::max_zero))]
     fn index(
         &self,
         limits: Limits,
@@ -117,24 +167,17 @@ impl<
         requires room { left.depth < limits.room }
         ensures reads { Says (joined left.depth (reads (named (limits.room - 1)) (index_rest input.old.scope left.value) input.old.tokens)) result input.new.tokens }
         ensures kept { IfOk result (λ read. input.new.scope ≡ input.old.scope) }
-        ensures within { IfOk result (λ read. read.depth ≤ limits.room) }
-        ensures shorter { IfOk result (λ read. length input.new.tokens ≤ length input.old.tokens) }
     {
         let at = self.expression_inside(limits, Wanted::Expression, input)?;
         if !input.is(Sign::CloseBracket) {
             return Err(Refusal::Refused(false));
         }
         let _closed = input.take();
-        let place = place_of(&left.value);
-        let array = Boxed::new(self.alloc, left.value)?;
-        Ok(Read {
-            value: Expr::Index(place, array, Boxed::new(self.alloc, at.value)?),
-            depth: left.depth.max(at.depth) + 1,
-        })
+        indexed(self.alloc, left, at)
     }
 
     /// The arguments in parentheses, up to their end.
-    #[tactic(auto, using(c_input::proofs::Steps::within, c_input::proofs::Steps::shorter, c_input::proofs::Steps::sees_less, c_input::proofs::Steps::max_zero))]
+    #[tactic(auto, using(c_input::proofs::Steps::within, c_input::proofs::Steps::max_zero))]
     fn call(
         &self,
         limits: Limits,
@@ -145,23 +188,17 @@ impl<
         requires room { left.depth < limits.room }
         ensures reads { Says (joined left.depth (reads (named (limits.room - 1)) (call_rest input.old.scope left.value) input.old.tokens)) result input.new.tokens }
         ensures kept { IfOk result (λ read. input.new.scope ≡ input.old.scope) }
-        ensures within { IfOk result (λ read. read.depth ≤ limits.room) }
-        ensures shorter { IfOk result (λ read. length input.new.tokens ≤ length input.old.tokens) }
     {
         let given = self.arguments(limits, input)?;
         if !input.is(Sign::CloseParen) {
             return Err(Refusal::Refused(false));
         }
         let _closed = input.take();
-        let place = place_of(&left.value);
-        Ok(Read {
-            value: Expr::Call(place, Boxed::new(self.alloc, left.value)?, given.value),
-            depth: left.depth.max(given.depth) + 1,
-        })
+        called(self.alloc, left, given)
     }
 
     /// One step behind what was read, which is no cast.
-    #[tactic(auto, using(c_input::proofs::Steps::sees_less, c_input::proofs::Steps::max_zero))]
+    #[tactic(auto, using(c_input::proofs::Steps::max_zero))]
     fn step(
         &self,
         limits: Limits,
@@ -172,8 +209,6 @@ impl<
         requires room { left.depth < limits.room }
         ensures reads { Says (joined left.depth (step_reads (limits.room - 1) input.old.scope left.value input.old.tokens)) result input.new.tokens }
         ensures kept { IfOk result (λ read. input.new.scope ≡ input.old.scope) }
-        ensures within { IfOk result (λ read. read.depth ≤ limits.room) }
-        ensures shorter { IfOk result (λ read. length input.new.tokens < length input.old.tokens) }
     {
         if input.is(Sign::OpenBracket) {
             let _opened = input.take();

@@ -1,11 +1,10 @@
 //! Operands, and operators before them (C17 6.5.3).
 
 ghost use Rattle.std.specs.Prelude.{◌≡◌, ◌+◌, ◌*◌, ◌<◌, ◌-◌, IfOk};
-ghost use Rattle.grammar.specs.Parser.{begins};
 ghost use Rattle.c_grammar.specs.Rules.{Operand, Prefix};
 ghost use Rattle.c_grammar.specs.Lexemes.{place};
-ghost use Rattle.c_grammar.specs.Expressions.{prefix, unary_operator};
-ghost use Rattle.c_grammar.specs.Grammar.{c_hints, starts_specs};
+ghost use Rattle.c_grammar.specs.Expressions.{unary_operator};
+ghost use Rattle.c_grammar.specs.Grammar.{starts_specs};
 ghost use Rattle.c_grammar.specs.Rules.{TypeHome};
 ghost use Rattle.c_grammar.specs.Specifiers.{no_specs};
 ghost use Rattle.c_input.specs.Input.{head, behind, sees};
@@ -15,33 +14,13 @@ ghost use Rattle.c_expressions.specs.Nodes.{unary_node, operation, prefix_first,
 ghost use Rattle.c_expressions.specs.Nested.{Nested};
 
 use crate::parser::Expressions;
-use crate::primary::begins_type_name;
 use crate::wanted::{Front, Wanted};
 use c_grammar::Sign;
 use c_input::{Input, Limits, Read, Refusal};
+use c_starts::{Home, begins_prefix, begins_specifiers};
 use c_tree::{Expr, TypeName, UnaryOperator};
 use sqlite_items::Boxed;
 use std::alloc::Global;
-
-/// Whether an operator before its operand begins here.
-#[tactic(auto, using(c_input::proofs::Steps::sees_none, c_input::proofs::Steps::sees_head))]
-fn begins_prefix(input: &Input<'_>) -> bool
-    ensures { result ≡ sees (begins c_hints (prefix input.now.scope)) input.now.tokens }
-{
-    if input.is_done() {
-        return false;
-    }
-    let seen = input.peek();
-    seen.is_among(&[Sign::Increment, Sign::Decrement])
-        || (seen.is_among(&[
-            Sign::Ampersand,
-            Sign::Star,
-            Sign::Plus,
-            Sign::Minus,
-            Sign::Tilde,
-            Sign::Exclamation,
-        ]) || seen.is(Sign::Sizeof))
-}
 
 /// Whether an operand of this front begins with an operator here.
 fn takes_prefix(front: Front, input: &Input<'_>) -> bool
@@ -179,7 +158,7 @@ impl<
             return self.unary(limits, place, UnaryOperator::Sizeof, Wanted::Bare, input);
         }
         let opened = input.take();
-        if !begins_type_name(input) {
+        if !begins_specifiers(Home::Type, input) {
             let rest = Wanted::Opened(opened.place());
             return self.unary(limits, place, UnaryOperator::Sizeof, rest, input);
         }

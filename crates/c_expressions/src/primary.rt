@@ -1,11 +1,10 @@
 //! Primary expressions (C17 6.5.1), and casts (6.5.4).
 
 ghost use Rattle.std.specs.Prelude.{◌≡◌, ◌+◌, ◌*◌, ◌<◌, ◌-◌, IfOk, IfErr};
-ghost use Rattle.grammar.specs.Parser.{Got, begins, one_more};
+ghost use Rattle.grammar.specs.Parser.{Got, one_more};
 ghost use Rattle.c_grammar.specs.Rules.{UnaryFront, Primary, Texts, TypeHome};
-ghost use Rattle.c_grammar.specs.Specifiers.{no_specs, is_spec_word};
-ghost use Rattle.c_grammar.specs.Expressions.{is_plain_name, bare_primary, primary, inside, cast_rest};
-ghost use Rattle.c_grammar.specs.Grammar.{c_hints, starts_expression, starts_specs};
+ghost use Rattle.c_grammar.specs.Expressions.{is_plain_name, inside, cast_rest};
+ghost use Rattle.c_grammar.specs.Grammar.{starts_primary, starts_specs};
 ghost use Rattle.c_input.specs.Input.{sees};
 ghost use Rattle.c_input.specs.Reads.{named, reads, Says};
 ghost use Rattle.c_expressions.specs.Named.{front_of};
@@ -16,6 +15,7 @@ use crate::parser::Expressions;
 use crate::wanted::{Front, Wanted};
 use c_grammar::Sign;
 use c_input::{Input, Limits, Read, Refusal};
+use c_starts::{Home, begins_bare, begins_expression, begins_specifiers};
 use c_tree::{Expr, Span, TypeName};
 use sqlite_items::{Boxed, Items};
 use std::alloc::Global;
@@ -32,98 +32,17 @@ fn is_plain_name(input: &Input<'_>) -> bool
     seen.is(Sign::Name) && !input.is_type(seen.text())
 }
 
-/// Whether a primary expression without a parenthesis begins here.
-#[tactic(auto, using(c_input::proofs::Steps::sees_none, c_input::proofs::Steps::sees_head))]
-fn begins_bare(input: &Input<'_>) -> bool
-    ensures { result ≡ sees (begins c_hints (bare_primary input.now.scope)) input.now.tokens }
-{
-    if input.is_done() {
-        return false;
-    }
-    let seen = input.peek();
-    (seen.is(Sign::Name) && !input.is_type(seen.text()))
-        || seen.is(Sign::Number)
-        || seen.is(Sign::Character)
-        || seen.is(Sign::Text)
-}
-
-/// Whether an expression begins here.
-#[tactic(auto, using(c_input::proofs::Steps::sees_none, c_input::proofs::Steps::sees_head))]
-pub(crate) fn begins_expression(input: &Input<'_>) -> bool
-    ensures { result ≡ sees (starts_expression input.now.scope) input.now.tokens }
-{
-    if input.is_done() {
-        return false;
-    }
-    let seen = input.peek();
-    seen.is_among(&[
-        Sign::Increment,
-        Sign::Decrement,
-        Sign::Sizeof,
-        Sign::Ampersand,
-        Sign::Star,
-        Sign::Plus,
-        Sign::Minus,
-        Sign::Tilde,
-        Sign::Exclamation,
-    ]) || seen.is(Sign::OpenParen)
-        || seen.is_among(&[Sign::Number, Sign::Character, Sign::Text])
-        || (seen.is(Sign::Name) && !input.is_type(seen.text()))
-}
-
-/// Whether a specifier of one word that may stand in a type name begins here.
-#[tactic(auto, using(c_input::proofs::Steps::sees_none, c_input::proofs::Steps::sees_head))]
-fn begins_spec_word(input: &Input<'_>) -> bool
-    ensures { result ≡ sees (is_spec_word TypeHome input.now.scope no_specs) input.now.tokens }
-{
-    if input.is_done() {
-        return false;
-    }
-    let seen = input.peek();
-    (seen.is_among(&[Sign::Inline, Sign::NoReturn]) && !input.is_in_block())
-        || seen.is_among(&[Sign::Const, Sign::Volatile, Sign::Restrict])
-        || seen.is_among(&[
-            Sign::Void,
-            Sign::Char,
-            Sign::Int,
-            Sign::Signed,
-            Sign::Unsigned,
-        ])
-        || (seen.is(Sign::Name) && input.is_type(seen.text()))
-}
-
-/// Whether a type name begins here.
-#[tactic(auto, using(c_input::proofs::Steps::sees_none, c_input::proofs::Steps::sees_head))]
-pub(crate) fn begins_type_name(input: &Input<'_>) -> bool
-    ensures { result ≡ sees (starts_specs TypeHome input.now.scope no_specs) input.now.tokens }
-{
-    if input.is_done() {
-        return false;
-    }
-    let seen = input.peek();
-    begins_spec_word(input)
-        || seen.is(Sign::Struct)
-        || seen.is(Sign::Enum)
-        || seen.is(Sign::Attribute)
-        || seen.is(Sign::OpenBracket)
-}
-
-/// Whether a primary expression that may be in a parenthesis begins here.
-#[tactic(auto, using(c_input::proofs::Steps::sees_none, c_input::proofs::Steps::sees_head))]
-fn begins_unary(input: &Input<'_>) -> bool
-    ensures { result ≡ sees (begins c_hints (primary UnaryFront input.now.scope)) input.now.tokens }
-{
-    begins_bare(input) || input.is(Sign::OpenParen)
-}
-
 /// Whether a primary expression begins here.
-#[tactic(auto, using(crate::proofs::Primaries::begins_inside))]
+#[tactic(auto, using(c_input::proofs::Steps::sees_none, c_input::proofs::Steps::sees_head))]
 fn begins_primary(front: Front, input: &Input<'_>) -> bool
-    ensures { result ≡ sees (begins c_hints (primary (front_of front) input.now.scope)) input.now.tokens }
+    ensures { result ≡ sees (starts_primary (front_of front) input.now.scope) input.now.tokens }
 {
+    if input.is_done() {
+        return false;
+    }
     match front {
-        Front::Cast => begins_unary(input),
-        Front::Unary => begins_unary(input),
+        Front::Cast => input.peek().is(Sign::OpenParen) || begins_bare(input),
+        Front::Unary => input.peek().is(Sign::OpenParen) || begins_bare(input),
         Front::Bare => begins_bare(input),
         Front::Opened(_) => begins_expression(input),
     }
@@ -231,7 +150,7 @@ impl<
         ensures reads { Says (one_more (opened_reads (limits.room - 1) input.old.scope place input.old.tokens)) result input.new.tokens }
         ensures kept { IfOk result (λ read. input.new.scope ≡ input.old.scope) }
     {
-        if begins_type_name(input) {
+        if begins_specifiers(Home::Type, input) {
             self.cast(limits, place, input)
         } else {
             self.inside(limits, place, input)

@@ -1,11 +1,11 @@
 -- One token decides in expressions.
-use Rattle.std.proofs.Common.{ℕ, Bool, true, false, not, ◌&&◌, ◌||◌, List, refl}
+use Rattle.std.proofs.Common.{Bool, true, false, not, ◌&&◌, ◌||◌, List, refl}
 use Rattle.grammar.proofs.Checked.{within, apart}
 use Rattle.c_grammar.specs.Expressions.{has_type}
 use Rattle.c_grammar.specs.Rules.{Declared, Scope, Front, CastFront, UnaryFront, BareFront, OpenedFront, Level, OrOr, TypeHome, Expression, Assignment, Conditional, Prefix, Arguments, MoreArguments, Binary, Operand, Postfix, Primary, Texts}
 use Rattle.c_grammar.proofs.Every.{All, rows, names_differ}
 use Rattle.c_grammar.specs.declared.Sign.TheVariants as k
-use Rattle.c_grammar.specs.Lexemes.{is, has_text}
+use Rattle.c_grammar.specs.Lexemes.{is}
 use Rattle.c_grammar.specs.Trees.{is_cast}
 use Rattle.c_grammar.specs.Specifiers.{no_specs}
 use Rattle.c_grammar.specs.Grammar.{starts_specs, starts_expression, ends_operand, ends_primary}

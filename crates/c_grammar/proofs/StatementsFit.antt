@@ -4,7 +4,7 @@ use Rattle.grammar.proofs.Checked.{within, apart, alike}
 use Rattle.c_grammar.specs.Expressions.{has_type}
 use Rattle.c_grammar.specs.Rules.{Declared, Scope, FileHome, BlockHome, Ordinary, Unknown, Specs, Initializer, Braces, Initializers, InitDeclarators, MoreDeclarators, Declaration, MaybeExpression, Statement, Block, BlockItems, External, Externals, Unit}
 use Rattle.c_grammar.specs.declared.Sign.TheVariants as k
-use Rattle.c_grammar.specs.Lexemes.{is, has_text}
+use Rattle.c_grammar.specs.Lexemes.{is}
 use Rattle.c_grammar.specs.Specifiers.{no_specs}
 use Rattle.c_grammar.specs.Statements.{file_scope}
 use Rattle.c_grammar.specs.Grammar.{starts_specs, starts_expression, starts_statement, starts_declarator, ends_specs}

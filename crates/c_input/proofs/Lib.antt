@@ -1,2 +1,4 @@
 pub mod Steps
+pub mod Choices
+pub mod Then
 pub mod Lists

@@ -1,13 +1,14 @@
 -- Each kind of rule as an equation over `reads`, for the code that reads it. At a rule that is written out the premise
 -- about its production is `refl`.
-use Rattle.std.proofs.Common.{◌≡◌, refl, ℕ, zero, suc, ◌-◌, ◌<◌, ◌≤◌, max, Bool, true, false, cond, List, [], ◌∷◌, ◌++◌, length, None, ap, ◌∙◌, sym, append_assoc, append-nil, arith}
+use Rattle.std.proofs.Common.{◌≡◌, refl, ℕ, zero, suc, ◌-◌, ◌<◌, ◌≤◌, max, Bool, true, false, cond, List, [], ◌∷◌, ◌++◌, length, None, ap, ◌∙◌, sym, subst, append_assoc, append-nil, arith}
 use Rattle.grammar.specs.Parts.{Return, Take, Call, Either, Plain, Node, Chain}
+use Rattle.grammar.specs.Fits.{FitsProduction}
 use Rattle.grammar.specs.Parser.{Outcome, Got, Bad, run, starts, begins, after, deepen, one_more}
 use Rattle.grammar.proofs.Walk as walk
 use Rattle.c_grammar.specs.Lexemes.{Lexeme}
 use Rattle.c_grammar.specs.Rules.{Rule, ValueOf}
 use Rattle.c_grammar.specs.Expressions.{Reading}
-use Rattle.c_grammar.specs.Grammar.{c_grammar, c_hints}
+use Rattle.c_grammar.specs.Grammar.{c_grammar, c_hints, first_of}
 use Rattle.c_grammar.proofs.Fit.{c_grammar_fits}
 use Rattle.c_input.specs.Input.{head, behind, is_done, sees}
 use Rattle.c_input.specs.Reads.{named, past, reads, joined, behind_items}
@@ -64,10 +65,14 @@ unfolding named
 node_rule room n ts g e l = walk.at_node c_grammar c_hints c_grammar_fits room n ts g e l ∙ ap (λ o. one_more o) (run_reads (named (room - 1)) g ts)
 
 pub full_rule : (room : ℕ) (n : Rule) (ts : List Lexeme) (g : Reading (ValueOf n)) → c_grammar.production n ≡ Node g → room ≡ 0
-    → named room n ts ≡ Bad (sees (begins c_hints g) ts) ts
-unfolding named
-full_rule zero n ts g e r = walk.no_node c_grammar c_hints c_grammar_fits n ts g e ∙ ap (λ b. Bad b ts) (starts_sees g ts)
+    → named room n ts ≡ Bad (sees (first_of n) ts) ts
+unfolding named sees
 full_rule (suc room) n ts g e r = cc
+full_rule zero n [] g e r = walk.no_node c_grammar c_hints c_grammar_fits n [] g e
+full_rule zero n (t ∷ ts) g e r = walk.no_node c_grammar c_hints c_grammar_fits n (t ∷ ts) g e ∙ ap (λ b. Bad b (t ∷ ts)) (sym (first.0 t))
+  where
+    first : FitsProduction c_hints n (Node g)
+    first = subst (λ p. FitsProduction c_hints n p) e (c_grammar_fits n).1
 
 -- a chain: its beginning, and its rest
 module _ (room : ℕ) (n : Rule) (start : Reading (ValueOf n)) (step : ValueOf n → Reading (ValueOf n)) (e : c_grammar.production n ≡ Chain start step) where

@@ -6,5 +6,5 @@ mod read;
 mod sign;
 
 pub use input::{Input, Seen, seen_in};
-pub use read::{Limits, Read, Refusal};
+pub use read::{Limits, Read, Refusal, deeper, flat};
 pub use sign::sign_of;

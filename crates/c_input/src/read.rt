@@ -1,6 +1,6 @@
 //! What a rule answers.
 
-ghost use Rattle.std.specs.Prelude.{◌≡◌, ◌+◌, ◌-◌, ◌<◌, IfOk, IfErr};
+ghost use Rattle.std.specs.Prelude.{◌≡◌, max, ◌+◌, ◌-◌, ◌<◌, IfOk, IfErr};
 ghost use Rattle.c_input.specs.declared.read.Refusal.TheVariants.{NoMemory};
 
 use std::alloc::AllocError;
@@ -10,6 +10,20 @@ use std::alloc::AllocError;
 pub struct Read<T> {
     pub value: T,
     pub depth: u32,
+}
+
+/// What is read in no node.
+pub fn flat<T: Drop>(value: T) -> Read<T>
+    ensures { result ≡ record { value = value; depth = 0 } }
+{
+    Read { value, depth: 0 }
+}
+
+/// The greater of two depths.
+pub fn deeper(one: u32, other: u32) -> u32
+    ensures { result ≡ max one other }
+{
+    if one < other { other } else { one }
 }
 
 /// Why a rule isn't read.

@@ -1,19 +1,21 @@
 //! Expressions, specifiers and declarators of C, which hold one another.
 //!
 //! Their rules take what they hold as function values (crates `c_expressions` and `c_declarators`). Here each of the
-//! four that lead back to one another is tied to the others.
+//! five that lead back to one another is tied to the others.
 #![tactic(auto)]
 
 ghost use Rattle.std.specs.Prelude.{◌≡◌, IfOk};
 ghost use Rattle.c_grammar.specs.Rules.{Specs, Conditional, Declarator as NamedDeclarator, Members, TypeName as NamedType};
 ghost use Rattle.c_grammar.specs.Specifiers.{no_specs};
 ghost use Rattle.c_input.specs.Reads.{named, Says};
-ghost use Rattle.c_declarators.specs.Named.{home_of, naming_of, bracket_of};
+ghost use Rattle.c_declarators.specs.Named.{naming_of, bracket_of};
+ghost use Rattle.c_starts.specs.Homes.{home_of};
 ghost use Rattle.c_expressions.specs.Named.{named_expression};
 
-use c_declarators::{Bracket, Declarators, Declared, Home, Naming, Specifiers};
+use c_declarators::{Bracket, Declarators, Declared, Naming, Specifiers};
 use c_expressions::{Expressions, Wanted};
 use c_input::{Input, Limits, Read, Refusal};
+use c_starts::Home;
 use c_tree::{Expr, Member, TypeName};
 use sqlite_items::Items;
 use std::alloc::Global;

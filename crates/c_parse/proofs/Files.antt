@@ -1,6 +1,6 @@
 -- A file is read where its rule reads all of the tokens.
 use Rattle.std.proofs.Common.{◌≡◌, refl, ℕ, Bool, true, false, List, [], ◌∷◌, length, Ok, Err, ap, ◌∙◌}
-use Rattle.grammar.specs.Parser.{Outcome, Got, Bad, finish, parse, parse_all, New}
+use Rattle.grammar.specs.Parser.{Outcome, Got, Bad, finish, parse_all}
 use Rattle.c_tree.specs.declared.statements.Tree.{Tree}
 use Rattle.c_grammar.specs.Lexemes.{Lexeme}
 use Rattle.c_grammar.specs.Rules.{Unit}

@@ -1,9 +1,9 @@
 -- A source with a new name behind it: its tokens, and what their reading tells.
-use Rattle.std.proofs.Common.{◌≡◌, refl, ℕ, ◌+◌, ◌-◌, ◌≤◌, nat_eq, List, [], ◌∷◌, ◌++◌, length, replicate, drop, take, map, All, ap, ap₂, sym, ◌∙◌, subst, append_assoc, append-nil, get_or, Ok, Err, length-drop, length-append, arith}
+use Rattle.std.proofs.Common.{◌≡◌, refl, ℕ, ◌+◌, ◌-◌, ◌≤◌, nat_eq, List, [], ◌∷◌, ◌++◌, length, replicate, drop, take, All, ap, ap₂, sym, ◌∙◌, subst, append_assoc, append-nil, get_or, Ok, Err, length-drop, length-append, arith}
 use Rattle.std.proofs.lemmas.List.{drop-append-le, take-append-le, length-replicate, map-append}
 use Rattle.std.proofs.lemmas.List.Elements.{All-append, All-cons, All-nil, All-tail}
 use Rattle.std.proofs.Math.Seq.{drop-append_seam, take-length}
-use Rattle.grammar.specs.Parser.{Got, Bad, parse_all}
+use Rattle.grammar.specs.Parser.{Bad, parse_all}
 use Rattle.grammar.specs.Reading.{IsViable}
 use Rattle.grammar.proofs.Theorem.{sound, fault}
 use Rattle.grammar.proofs.Closed.{is_read_up, read_viable}

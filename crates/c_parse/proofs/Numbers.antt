@@ -1,10 +1,10 @@
 -- The number of a refusal.
-use Rattle.std.proofs.Common.{◌≡◌, refl, ℕ, Bool, true, false, List, [], ◌∷◌, inl, inr, ◌⊎◌}
+use Rattle.std.proofs.Common.{◌≡◌, refl, ℕ, Bool, true, false, List, inl, inr}
 use Rattle.std.proofs.lemmas.Bool.{false≢true}
 use Rattle.c_text.specs.declared.Token.{Token}
 use Rattle.c_grammar.specs.declared.Sign.TheVariants as k
 use Rattle.c_grammar.specs.Lexemes.{Lexeme, lexemes_of, is}
-use Rattle.c_grammar.specs.Refusals.{is_reserved_name, GoesOnWithName}
+use Rattle.c_grammar.specs.Refusals.{is_reserved_name}
 use Rattle.c_parse.specs.Parsed.{NumberByDepth, IsNumberOf, TellsOfName}
 
 module _ (source : List ℕ) (before : List Token) (deep : Bool) (t : Lexeme) where

@@ -5,6 +5,7 @@ use Rattle.grammar.specs.Reading.{IsRead}
 use Rattle.c_text.specs.declared.Token.{Token}
 use Rattle.c_text.specs.declared.TokenKind.TheVariants.{Name}
 use Rattle.c_tree.specs.declared.statements.Tree.{Tree}
+use Rattle.c_tree.specs.Depth.{tree_depth}
 use Rattle.c_grammar.specs.Lexemes.{Lexeme, lexemes_of}
 use Rattle.c_grammar.specs.Rules.{Unit as WholeFile}
 use Rattle.c_grammar.specs.Grammar.{c_grammar, c_hints}
@@ -14,9 +15,9 @@ use Rattle.c_parse.specs.declared.ParseRefusal.TheVariants.{Bad as Unread, NoMem
 use Rattle.c_parse.specs.declared.file.Fault.{Fault}
 use Rattle.c_parse.specs.declared.file.Fault.TheVariants.{Refused, NoMemory as NoMemoryToRead}
 
--- The grammar reads all tokens of the source as this tree, no deeper than 200.
+-- The grammar reads all tokens of the source as this tree, which is no deeper than 200.
 abbrev pub IsParsed : List ℕ → List Token → Tree → Type 0
-IsParsed source tokens tree = (depth : ℕ) × (depth ≤ deepest) × IsRead c_grammar depth WholeFile (lexemes_of source tokens) tree
+IsParsed source tokens tree = ((room : ℕ) × IsRead c_grammar room WholeFile (lexemes_of source tokens) tree) × (tree_depth tree ≤ deepest)
 
 -- the first byte of the refused token, or the end of the source
 abbrev pub place_of : List ℕ → List Lexeme → ℕ

@@ -1,8 +1,6 @@
 //! The number of a refusal.
 
 ghost use Rattle.std.specs.Prelude.{◌≡◌, ◌+◌, ◌≤◌, All, [], ◌∷◌, ◌++◌, length, replicate, IfOk};
-ghost use Rattle.std.specs.List.{list_any};
-ghost use Rattle.std.specs.Str.{bytes_eq};
 ghost use Rattle.c_text.specs.Spelling.{IsWithin};
 ghost use Rattle.c_grammar.specs.Lexemes.{Lexeme, lexemes_of};
 ghost use Rattle.c_grammar.specs.Refusals.{is_reserved_name};
@@ -12,59 +10,25 @@ use crate::ParseRefusal;
 use crate::file::{Fault, read_file};
 use c_grammar::Sign;
 use c_input::{Seen, seen_in};
+use c_starts::is_reserved;
 use c_text::{Token, TokenKind};
 use sqlite_items::Items;
 use std::alloc::{AllocError, Global};
 
-/// The names of the library, which no file declares as ordinary names.
-const RESERVED: [&[u8]; 20] = [
-    b"NULL",
-    b"size_t",
-    b"pthread_t",
-    b"pthread_mutex_t",
-    b"PTHREAD_MUTEX_INITIALIZER",
-    b"malloc",
-    b"calloc",
-    b"free",
-    b"pthread_create",
-    b"pthread_join",
-    b"pthread_mutex_lock",
-    b"pthread_mutex_unlock",
-    b"usleep",
-    b"puts",
-    b"putchar",
-    b"abs",
-    b"__rtsan_disable",
-    b"__rtsan_enable",
-    b"exit",
-    b"abort",
-];
-
-/// Whether one of the words is this text.
-fn is_one_of(words: &[&[u8]], text: &[u8]) -> bool
-    ensures { result ≡ list_any (λ word. bytes_eq word.now text.now) words.now }
-{
-    words.iter().any(|word| *word == text)
-}
-
+/// Whether it is a reserved name.
 fn is_reserved_name(seen: &Seen<'_>) -> bool
     ensures { result ≡ is_reserved_name seen.now }
 {
-    seen.is(Sign::Name) && is_one_of(&RESERVED, seen.text())
+    seen.is(Sign::Name) && is_reserved(seen)
 }
 
 /// The source with a name behind it that stands nowhere in it.
 fn with_new_name(alloc: Global, source: &[u8]) -> Result<Items<u8>, AllocError>
+    requires { length source.now ≤ 1048576 }
     ensures { IfOk result (λ longer. longer ≡ source.now ++ replicate (length source.now + 26) 97) }
 {
-    let mut longer = Items::new(alloc);
-    'bytes: for byte in source {
-        longer.push(*byte)?;
-    }
-    'name: for _ in 0..source.len() {
-        longer.push(b'a')?;
-    }
-    'more: for _ in 0..26usize {
+    let mut longer = Items::from_slice(alloc, source)?;
+    'name: for _ in 0..source.len() + 26 {
         longer.push(b'a')?;
     }
     Ok(longer)
@@ -79,10 +43,7 @@ fn with_name_token(
     requires { length ≤ 1048576 }
     ensures { IfOk result (λ tokens. tokens ≡ before.now ++ new_token length ∷ []) }
 {
-    let mut tokens = Items::new(alloc);
-    'tokens: for token in before {
-        tokens.push(*token)?;
-    }
+    let mut tokens = Items::from_slice(alloc, before)?;
     tokens.push(Token {
         kind: TokenKind::Name,
         start: length as u32,

@@ -37,7 +37,7 @@ fn outcome(alloc: Global, source: &[u8]) -> Told {
 }
 
 /// Sources, and the number and the place of their refusals.
-const REFUSED: [(&[u8], u8, u32); 36] = [
+const REFUSED: [(&[u8], u8, u32); 39] = [
     (b"void f(void) [[clang::nonbl", 1, 22),
     (b"void f(void) { unsigned char c; }", 1, 24),
     (b"int int x;", 1, 4),
@@ -78,9 +78,16 @@ const REFUSED: [(&[u8], u8, u32); 36] = [
     (b"int x = (int) y = 2;", 1, 16),
     (b"int x = (int) y++ z;", 1, 18),
     (b"int a[[2]];", 1, 6),
+    (b"int f(exit x);", 1, 6),
+    (b"void f(void) { x = size_t; }", 3, 19),
+    (
+        b"typedef int T; void f(void) { for (int T = 0; ; ) { T x; } }",
+        1,
+        54,
+    ),
 ];
 
-const READ: [&[u8]; 17] = [
+const READ: [&[u8]; 18] = [
     b"",
     b"int;",
     b"typedef int T; T x; void f(T T);",
@@ -98,6 +105,7 @@ const READ: [&[u8]; 17] = [
     b"enum e { A, B = 2, } x;",
     b"inline static _Noreturn void f(void) { exit(1); }",
     b"void f(void) { _Thread_local static int x; x = sizeof(int[2]) + sizeof(x)[0]; }",
+    b"typedef int T; void f(void) { for (int T = 0; T < 2; T++) T = 1; T x; }",
 ];
 
 #[test]
@@ -131,7 +139,7 @@ struct Nested {
     refused: u32,
 }
 
-const NESTED: [Nested; 11] = [
+const NESTED: [Nested; 14] = [
     Nested {
         before: b"int x = ",
         opening: b"(",
@@ -231,6 +239,57 @@ const NESTED: [Nested; 11] = [
         times: 197,
         refused: 1397,
     },
+    // A reserved name that is too deep has the number of its depth.
+    Nested {
+        before: b"int x = ",
+        opening: b"(",
+        inmost: b"malloc",
+        closing: b")",
+        behind: b";",
+        times: 198,
+        refused: 207,
+    },
+    Nested {
+        before: b"int x = ",
+        opening: b"- ",
+        inmost: b"sizeof (int)",
+        closing: b"",
+        behind: b";",
+        times: 198,
+        refused: 406,
+    },
+    Nested {
+        before: b"int ",
+        opening: b"*",
+        inmost: b"f(void)",
+        closing: b"",
+        behind: b";",
+        times: 198,
+        refused: 204,
+    },
+];
+
+/// Nests of 200 nodes at a token that goes on in two ways, only one of which is a further node. The token behind it is
+/// refused where it belongs to that one.
+const TWO_WAYS: [Nested; 2] = [
+    Nested {
+        before: b"int x = ",
+        opening: b"- ",
+        inmost: b"sizeof (1)",
+        closing: b"",
+        behind: b";",
+        times: 198,
+        refused: 412,
+    },
+    Nested {
+        before: b"int ",
+        opening: b"*",
+        inmost: b"f(void)[2]",
+        closing: b"",
+        behind: b";",
+        times: 198,
+        refused: 210,
+    },
 ];
 
 fn push_all(text: &mut Items<u8>, bytes: &[u8]) -> Result<(), AllocError> {
@@ -240,30 +299,47 @@ fn push_all(text: &mut Items<u8>, bytes: &[u8]) -> Result<(), AllocError> {
     Ok(())
 }
 
-fn nested_text(alloc: Global, nest: Nested, times: usize) -> Result<Items<u8>, AllocError> {
+/// The source with all that may be nested in it, or with one more.
+fn nested_text(alloc: Global, nest: Nested, deeper: bool) -> Result<Items<u8>, AllocError> {
     let mut text = Items::new(alloc);
     push_all(&mut text, nest.before)?;
-    for _ in 0..times {
+    for _ in 0..nest.times {
+        push_all(&mut text, nest.opening)?;
+    }
+    if deeper {
         push_all(&mut text, nest.opening)?;
     }
     push_all(&mut text, nest.inmost)?;
-    for _ in 0..times {
+    for _ in 0..nest.times {
+        push_all(&mut text, nest.closing)?;
+    }
+    if deeper {
         push_all(&mut text, nest.closing)?;
     }
     push_all(&mut text, nest.behind)?;
     Ok(text)
 }
 
+/// The depth of the tree, where the source is read.
+fn depth_of(alloc: Global, source: &[u8]) -> Option<u32> {
+    if source.len() > 100_000 {
+        return None;
+    }
+    let tokens = tokens(alloc, source).ok()?;
+    let tree = parse(alloc, source, tokens.as_slice()).ok()?;
+    Some(tree.depth())
+}
+
 #[test]
 fn nesting_of_200_is_read_and_of_201_refused(rt: HostRuntime) -> Result<(), Fail> {
     for nest in NESTED {
-        let deepest = nested_text(rt.alloc(), nest, nest.times)?;
+        let deepest = nested_text(rt.alloc(), nest, false)?;
         assert_eq!(rt;
-            outcome(rt.alloc(), deepest.as_slice()),
-            Told::Read,
+            depth_of(rt.alloc(), deepest.as_slice()),
+            Some(200),
             "at {nest:?}"
         );
-        let deeper = nested_text(rt.alloc(), nest, nest.times + 1)?;
+        let deeper = nested_text(rt.alloc(), nest, true)?;
         assert_eq!(rt;
             outcome(rt.alloc(), deeper.as_slice()),
             Told::Refused(2, nest.refused),
@@ -271,6 +347,37 @@ fn nesting_of_200_is_read_and_of_201_refused(rt: HostRuntime) -> Result<(), Fail
         );
     }
     Ok(())
+}
+
+#[test]
+fn a_token_that_goes_on_in_two_ways_is_read(rt: HostRuntime) -> Result<(), Fail> {
+    for nest in TWO_WAYS {
+        let text = nested_text(rt.alloc(), nest, false)?;
+        assert_eq!(rt;
+            outcome(rt.alloc(), text.as_slice()),
+            Told::Refused(2, nest.refused),
+            "at {nest:?}"
+        );
+    }
+    Ok(())
+}
+
+/// The index of the refused token, where there is one.
+fn refused_token(alloc: Global, source: &[u8]) -> Option<u32> {
+    if source.len() > 100_000 {
+        return None;
+    }
+    let tokens = tokens(alloc, source).ok()?;
+    match parse(alloc, source, tokens.as_slice()) {
+        Err(ParseRefusal::Bad { token, .. }) => Some(token),
+        _ => None,
+    }
+}
+
+#[test]
+fn refused_tokens_are_counted_from_0(rt: HostRuntime) {
+    assert_eq!(rt; refused_token(rt.alloc(), b"int int x;"), Some(1));
+    assert_eq!(rt; refused_token(rt.alloc(), b"int x = (1 + 2"), Some(7));
 }
 
 const AUDIO: &[u8] = b"\

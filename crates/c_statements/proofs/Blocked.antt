@@ -1,7 +1,7 @@
 -- Blocks: each rule as an equation.
 use Rattle.std.proofs.Common.{◌≡◌, refl, ℕ, zero, ◌-◌, ◌<◌, max, Bool, true, false, cond, ◌||◌, List, [], ◌∷◌, ◌++◌, append-nil, length, Err, ap, ◌∙◌, sym}
 use Rattle.grammar.specs.Parts.{Return, Call}
-use Rattle.grammar.specs.Parser.{Outcome, Got, Bad, begins, after, deepen, one_more}
+use Rattle.grammar.specs.Parser.{Outcome, Got, Bad, after, deepen, one_more}
 use Rattle.c_tree.specs.declared.statements.BlockItem.{BlockItem}
 use Rattle.c_tree.specs.declared.statements.BlockItem.TheVariants as item
 use Rattle.c_grammar.specs.Lexemes.{Lexeme, is}
@@ -9,7 +9,7 @@ use Rattle.c_grammar.specs.declared.Sign.TheVariants as k
 use Rattle.c_grammar.specs.Rules.{Scope, BlockHome, DeclarationRead, StatementRead, Declaration, Statement, Block, BlockItems}
 use Rattle.c_grammar.specs.Expressions.{Reading}
 use Rattle.c_grammar.specs.Specifiers.{no_specs}
-use Rattle.c_grammar.specs.Grammar.{c_hints, starts_specs, starts_statement}
+use Rattle.c_grammar.specs.Grammar.{starts_specs, starts_statement}
 use Rattle.c_grammar.specs.Statements.{block, block_items}
 use Rattle.c_input.specs.Input.{Input, sees}
 use Rattle.c_input.specs.Reads.{named, reads, Says}
@@ -18,7 +18,8 @@ use Rattle.c_input.specs.declared.read.Refusal.TheVariants.{Refused, NoMemory}
 use Rattle.c_input.proofs.Steps.{plain_rule, node_rule, full_rule, less, max_zero}
 use Rattle.c_statements.specs.Forms.{ItemRead, item_read, starts_item, block_item}
 use Rattle.c_statements.specs.Scoped.{Leaves}
-use Rattle.c_statements.proofs.Gathered.{gathered, gathered_first, gathered_both, told_by, one_call, either, sees_alike, or_false}
+use Rattle.c_input.proofs.Choices.{sees_first, either}
+use Rattle.c_statements.proofs.Gathered.{gathered, gathered_first, gathered_both, told_by, one_call}
 
 pub block_rule : (room : ℕ) (s : Scope) (loop : Bool) (ts : List Lexeme) → 0 < room
     → named room (Block s loop) ts ≡ one_more (reads (named (room - 1)) (block s loop) ts)
@@ -45,7 +46,7 @@ pub item_rule : (room : ℕ) (s : Scope) (loop : Bool) (ts : List Lexeme)
     (told_by (λ x. stated_item s x) (named room (Statement s loop) ts))
 unfolding block_item
 item_rule room s loop ts =
-    either (sees_alike (begins c_hints (one_declaration s)) (starts_specs BlockHome s no_specs) (λ t. or_false (starts_specs BlockHome s no_specs t)) ts)
+    either (sees_first (starts_specs BlockHome s no_specs) ts)
     (one_call (named room) (Declaration s) (λ x. declared_item x) ts) (one_call (named room) (Statement s loop) (λ x. stated_item s x) ts)
 
 told_got : {A B : Type 0} (f : A → B) (o : Outcome Lexeme A) (y : B) (d : ℕ) (us : List Lexeme) → told_by f o ≡ Got y d us
@@ -81,9 +82,9 @@ items_rule : (room : ℕ) (s : Scope) (loop : Bool) (ts : List Lexeme)
     ≡ cond (sees (starts_item s loop) ts) (after (λ one d left. and_items room loop one d left) (reads (named room) (block_item s loop) ts)) (Got [] 0 ts)
 items_rule room s loop ts =
     plain_rule room (BlockItems s loop) ts (block_items s loop) refl
-    ∙ either (sees_alike (begins c_hints (one_declaration s)) (starts_specs BlockHome s no_specs) (λ t. or_false (starts_specs BlockHome s no_specs t)) ts)
+    ∙ either (sees_first (starts_specs BlockHome s no_specs) ts)
     (firsts (named room (Declaration s) ts) (λ x. declared_item x))
-    (either (sees_alike (begins c_hints (one_statement s loop)) (starts_statement s loop) (λ t. or_false (starts_statement s loop t)) ts)
+    (either (sees_first (starts_statement s loop) ts)
     (firsts (named room (Statement s loop) ts) (λ x. stated_item s x)) refl)
     ∙ choose (sees (starts_specs BlockHome s no_specs) ts) (sees (starts_statement s loop) ts) (λ o. after (λ one d left. and_items room loop one d left) o)
     (told_by (λ x. declared_item x) (named room (Declaration s) ts)) (told_by (λ x. stated_item s x) (named room (Statement s loop) ts)) (Got [] 0 ts)

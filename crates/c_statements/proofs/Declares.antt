@@ -1,7 +1,7 @@
 -- Declarations: each rule as an equation.
 use Rattle.std.proofs.Common.{◌≡◌, refl, ℕ, zero, suc, ◌+◌, ◌-◌, ◌<◌, max, Bool, true, false, cond, List, [], ◌∷◌, ◌++◌, append-nil, append_assoc, Option, Some, None, Err, ap, ◌∙◌, sym, arith}
 use Rattle.grammar.specs.Parts.{Return, Call, Either}
-use Rattle.grammar.specs.Parser.{Outcome, Got, Bad, begins, after, deepen, one_more}
+use Rattle.grammar.specs.Parser.{Outcome, Got, Bad, after, deepen, one_more}
 use Rattle.c_tree.specs.declared.expressions.Declarator as declarator
 use Rattle.c_tree.specs.declared.declarations.Init.{Init}
 use Rattle.c_tree.specs.declared.declarations.InitDeclarator.{InitDeclarator}
@@ -11,7 +11,7 @@ use Rattle.c_grammar.specs.Rules.{Scope, Ordinary, Unknown, BlockHome, SpecsRead
 use Rattle.c_grammar.specs.Trees.{has_typedef}
 use Rattle.c_grammar.specs.Expressions.{Reading, word}
 use Rattle.c_grammar.specs.Specifiers.{no_specs}
-use Rattle.c_grammar.specs.Grammar.{c_hints, starts_specs}
+use Rattle.c_grammar.specs.Grammar.{starts_specs}
 use Rattle.c_grammar.specs.Statements.{declare, declared, declaration, add_declarator, behind_declarator, init_declarators, more_declarators}
 use Rattle.c_input.specs.Input.{Input, sees, behind}
 use Rattle.c_input.specs.Reads.{named, reads}
@@ -19,7 +19,8 @@ use Rattle.c_input.specs.declared.read.Refusal.{Refusal}
 use Rattle.c_input.specs.declared.read.Refusal.TheVariants.{Refused, NoMemory}
 use Rattle.c_input.proofs.Steps.{plain_rule, node_rule, full_rule, max_zero}
 use Rattle.c_statements.specs.Scoped.{Leaves, OneRead, one_read, declarators_read, with_value, behind_one, one_declarator, behind_declarators}
-use Rattle.c_statements.proofs.Gathered.{told_by, told_same, one_call, sees_alike, or_false, twice}
+use Rattle.c_input.proofs.Choices.{twice}
+use Rattle.c_statements.proofs.Gathered.{told_by, told_same, one_call}
 
 abbrev valued : declarator.Declarator → Init → InitDeclarator
 valued tree value = record { declarator = tree; init = Some value }
@@ -185,9 +186,7 @@ behind_specs s x =
 
 pub no_declaration : (room : ℕ) (s : Scope) (ts : List Lexeme) → room ≡ 0
     → named room (Declaration s) ts ≡ Bad (sees (starts_specs BlockHome s no_specs) ts) ts
-no_declaration room s ts e =
-    full_rule room (Declaration s) ts (declaration s) refl e
-    ∙ ap (λ b. Bad b ts) (sees_alike (begins c_hints (declaration s)) (starts_specs BlockHome s no_specs) (λ t. or_false (starts_specs BlockHome s no_specs t)) ts)
+no_declaration room s ts e = full_rule room (Declaration s) ts (declaration s) refl e
 
 plus_one : (n : ℕ) → suc n ≡ n + 1
 plus_one n = omega arith

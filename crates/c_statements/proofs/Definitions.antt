@@ -23,7 +23,8 @@ use Rattle.c_input.proofs.Steps.{plain_rule, node_rule, full_rule, less, max_zer
 use Rattle.c_statements.specs.Scoped.{Leaves, Extends, with_value, declarators_read, behind_declarators}
 use Rattle.c_statements.specs.Defined.{external_read, body_of, only_specs, only_tree, declarators_from, behind_specs}
 use Rattle.c_statements.proofs.Declares.{behind_rule}
-use Rattle.c_statements.proofs.Gathered.{gathered, gathered_first, gathered_both, told_by, one_call, either, sees_alike, or_false}
+use Rattle.c_input.proofs.Choices.{sees_first, either}
+use Rattle.c_statements.proofs.Gathered.{gathered, gathered_first, gathered_both, told_by, one_call}
 use Rattle.c_statements.proofs.Scopes.{extends_self, extends_one, extends_both}
 
 -- the scope of a body, and the one behind it
@@ -107,7 +108,7 @@ specs_rule room s specs ts = go (named room (Declarator s Ordinary Unknown) ts)
         (told_by (λ all. declares specs all) (reads (named room) (declarators_from (declare s (has_typedef specs) y.name) (has_typedef specs) y.tree) left)))) o
     go (Got y d left) =
         ap (λ o. deepen d o)
-        (either (sees_alike (begins c_hints (definition s specs y)) (is k.OpenBrace) (λ t. or_false (is k.OpenBrace t)) left)
+        (either (sees_first (is k.OpenBrace) left)
         (one_call (named room) (Block (body_scope s specs y) false) (λ body. defines s specs y body) left)
         (made_of room (declare s (has_typedef specs) y.name) (has_typedef specs) y (λ all. declares specs all) left))
     go (Bad deep left) = refl
@@ -115,9 +116,7 @@ specs_rule room s specs ts = go (named room (Declarator s Ordinary Unknown) ts)
 -- a definition or a declaration, by its specifiers
 pub no_external : (room : ℕ) (s : Scope) (ts : List Lexeme) → room ≡ 0
     → named room (External s) ts ≡ Bad (sees (starts_specs FileHome s no_specs) ts) ts
-no_external room s ts e =
-    full_rule room (External s) ts (external s) refl e
-    ∙ ap (λ b. Bad b ts) (sees_alike (begins c_hints (external s)) (starts_specs FileHome s no_specs) (λ t. or_false (starts_specs FileHome s no_specs t)) ts)
+no_external room s ts e = full_rule room (External s) ts (external s) refl e
 
 -- one node round what was read before and what is read here
 abbrev pub node_of : {A : Type 0} → ℕ → Outcome Lexeme A → Outcome Lexeme A
@@ -171,7 +170,7 @@ externals_rule : (room : ℕ) (s : Scope) (ts : List Lexeme)
     ≡ cond (sees (starts_specs FileHome s no_specs) ts) (after (λ one d left. and_externals room one d left) (named room (External s) ts)) (Got [] 0 ts)
 externals_rule room s ts =
     plain_rule room (Externals s) ts (externals s) refl
-    ∙ either (sees_alike (begins c_hints (one_external s)) (starts_specs FileHome s no_specs) (λ t. or_false (starts_specs FileHome s no_specs t)) ts)
+    ∙ either (sees_first (starts_specs FileHome s no_specs) ts)
     (firsts (named room (External s) ts)) refl
   where
     firsts : (o : Outcome Lexeme ExternalRead)

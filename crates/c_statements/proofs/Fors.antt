@@ -1,7 +1,7 @@
 -- `for`: each of its parts as an equation.
 use Rattle.std.proofs.Common.{◌≡◌, refl, ℕ, zero, Bool, true, false, cond, List, Option, ap, ◌∙◌, sym}
 use Rattle.grammar.specs.Parts.{Return, Call}
-use Rattle.grammar.specs.Parser.{Outcome, Got, Bad, begins, after, deepen}
+use Rattle.grammar.specs.Parser.{Outcome, Got, Bad, after, deepen}
 use Rattle.c_tree.specs.declared.expressions.Expr.{Expr}
 use Rattle.c_tree.specs.declared.statements.ForStart.{ForStart}
 use Rattle.c_tree.specs.declared.statements.ForStart.TheVariants as start
@@ -11,12 +11,13 @@ use Rattle.c_grammar.specs.Lexemes.{Lexeme, is, place}
 use Rattle.c_grammar.specs.Rules.{Scope, BlockHome, DeclarationRead, StatementRead, Declaration, Statement}
 use Rattle.c_grammar.specs.Expressions.{Reading}
 use Rattle.c_grammar.specs.Specifiers.{no_specs}
-use Rattle.c_grammar.specs.Grammar.{c_hints, starts_specs}
+use Rattle.c_grammar.specs.Grammar.{starts_specs}
 use Rattle.c_input.specs.Input.{head, sees, behind}
 use Rattle.c_input.specs.Reads.{named, reads}
 use Rattle.c_input.proofs.Steps.{max_zero}
 use Rattle.c_statements.specs.Forms.{expression_until, StartRead, start_read, for_start, for_step, for_parts, for_form}
-use Rattle.c_statements.proofs.Gathered.{told_by, one_call, either, sees_alike, or_false}
+use Rattle.c_input.proofs.Choices.{sees_first, either}
+use Rattle.c_statements.proofs.Gathered.{told_by, one_call}
 use Rattle.c_statements.proofs.Shapes.{until_then}
 
 abbrev declared_start : DeclarationRead → StartRead
@@ -38,7 +39,7 @@ pub start_rule : (room : ℕ) (s : Scope) (ts : List Lexeme)
     (told_by (λ a. expressed_start s a) (reads (named room) (expression_until k.Semicolon s) ts))
 unfolding for_start
 start_rule room s ts =
-    either (sees_alike (begins c_hints (one_declaration s)) (starts_specs BlockHome s no_specs) (λ t. or_false (starts_specs BlockHome s no_specs t)) ts)
+    either (sees_first (starts_specs BlockHome s no_specs) ts)
     (one_call (named room) (Declaration s) (λ x. declared_start x) ts)
     (until_then room k.Semicolon s (λ a. Return (expressed_start s a)) ts
     ∙ zero_depth (λ a. expressed_start s a) (reads (named room) (expression_until k.Semicolon s) ts))
@@ -71,7 +72,7 @@ pub for_rule : (room : ℕ) (s : Scope) (ts : List Lexeme) → sees (is k.For) t
 unfolding for_form
 for_rule room s ts e =
     rw e (ap (λ o. cond (sees (is k.OpenParen) (behind ts)) o (Bad false (behind ts)))
-    (either (sees_alike (begins c_hints (begun s (place (head ts)))) (starts_specs BlockHome s no_specs) (λ t. or_false (starts_specs BlockHome s no_specs t)) (behind (behind ts)))
+    (either (sees_first (starts_specs BlockHome s no_specs) (behind (behind ts)))
     (declared_first (named room (Declaration s) (behind (behind ts))))
     (until_then room k.Semicolon s (λ a. for_parts s (place (head ts)) (start.Expression a)) (behind (behind ts))
     ∙ expressed_first (reads (named room) (expression_until k.Semicolon s) (behind (behind ts))))

@@ -1,10 +1,9 @@
 -- Lists that are read item by item, and parts that are one rule.
-use Rattle.std.proofs.Common.{◌≡◌, refl, ℕ, zero, max, Bool, true, false, cond, ◌||◌, List, [], ◌∷◌, ◌++◌, ap, ◌∙◌, append_assoc, sym, arith}
+use Rattle.std.proofs.Common.{◌≡◌, refl, ℕ, zero, max, List, [], ◌∷◌, ◌++◌, ap, ◌∙◌, append_assoc, sym, arith}
 use Rattle.grammar.specs.Parts.{Return, Call}
 use Rattle.grammar.specs.Parser.{Outcome, Got, Bad, after, deepen}
 use Rattle.c_grammar.specs.Lexemes.{Lexeme}
 use Rattle.c_grammar.specs.Rules.{Rule, ValueOf}
-use Rattle.c_input.specs.Input.{sees}
 use Rattle.c_input.specs.Reads.{reads}
 
 -- these items, and their depth, in front of a list that is read
@@ -52,25 +51,6 @@ one_call call n f ts = go (call n ts)
     go (Got x d left) = ap (λ n. Got (f x) n left) (max_zero d)
     go (Bad deep left) = refl
 
--- a test of the next token, written in another way
-pub sees_alike : (one other : Lexeme → Bool) → ((t : Lexeme) → one t ≡ other t) → (ts : List Lexeme) → sees one ts ≡ sees other ts
-unfolding sees
-sees_alike one other same [] = refl
-sees_alike one other same (t ∷ ts) = same t
-
-pub or_false : (b : Bool) → (b || false) ≡ b
-or_false true = refl
-or_false false = refl
-
 pub told_same : {A : Type 0} (o : Outcome Lexeme A) → told_by (λ a. a) o ≡ o
 told_same (Got x d left) = refl
 told_same (Bad deep left) = refl
-
--- a choice, part by part
-pub either : {A : Type 0} {b c : Bool} {x y v w : A} → b ≡ c → x ≡ v → y ≡ w → cond b x y ≡ cond c v w
-either e f g = rw (e, f, g) refl
-
--- the same test of the same token
-pub twice : {A : Type 0} (b : Bool) (x y z : A) → cond b (cond b x y) z ≡ cond b x z
-twice true x y z = refl
-twice false x y z = refl

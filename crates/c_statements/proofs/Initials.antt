@@ -1,7 +1,7 @@
 -- Initializers: each rule as an equation.
 use Rattle.std.proofs.Common.{◌≡◌, refl, ℕ, ◌-◌, ◌<◌, max, true, false, cond, List, [], ◌∷◌, ◌++◌, ap, ◌∙◌, Err}
 use Rattle.grammar.specs.Parts.{Return, Call}
-use Rattle.grammar.specs.Parser.{Got, Bad, begins, one_more}
+use Rattle.grammar.specs.Parser.{Got, Bad, one_more}
 use Rattle.c_tree.specs.declared.declarations.Init.{Init}
 use Rattle.c_tree.specs.declared.declarations.Init.TheVariants as init
 use Rattle.c_grammar.specs.Lexemes.{Lexeme, is}
@@ -9,13 +9,13 @@ use Rattle.c_grammar.specs.declared.Sign.TheVariants as k
 use Rattle.c_grammar.specs.Rules.{Scope, Initializer, Braces, Initializers, Assignment}
 use Rattle.c_grammar.specs.Statements.{initializer, braces, initializers}
 use Rattle.c_grammar.specs.Expressions.{Reading}
-use Rattle.c_grammar.specs.Grammar.{c_hints}
 use Rattle.c_input.specs.Input.{sees, behind}
 use Rattle.c_input.specs.Reads.{named, reads, Says}
 use Rattle.c_input.specs.declared.read.Refusal.{Refusal}
 use Rattle.c_input.specs.declared.read.Refusal.TheVariants.{Refused, NoMemory}
 use Rattle.c_input.proofs.Steps.{plain_rule, node_rule, full_rule, max_zero}
-use Rattle.c_statements.proofs.Gathered.{gathered, gathered_first, gathered_both, told_by, told_same, one_call, either, sees_alike, or_false}
+use Rattle.c_input.proofs.Choices.{sees_first, either}
+use Rattle.c_statements.proofs.Gathered.{gathered, gathered_first, gathered_both, told_by, told_same, one_call}
 
 pub braces_rule : (room : ℕ) (s : Scope) (ts : List Lexeme) → 0 < room
     → named room (Braces s) ts ≡ one_more (reads (named (room - 1)) (braces s) ts)
@@ -32,7 +32,7 @@ pub initializer_rule : (room : ℕ) (s : Scope) (ts : List Lexeme)
     ≡ cond (sees (is k.OpenBrace) ts) (named room (Braces s) ts) (told_by (λ a. init.Value a) (named room (Assignment s) ts))
 initializer_rule room s ts =
     plain_rule room (Initializer s) ts (initializer s) refl
-    ∙ either (sees_alike (begins c_hints (initializer_braces s)) (is k.OpenBrace) (λ t. or_false (is k.OpenBrace t)) ts)
+    ∙ either (sees_first (is k.OpenBrace) ts)
     (one_call (named room) (Braces s) (λ a. a) ts ∙ told_same (named room (Braces s) ts))
     (one_call (named room) (Assignment s) (λ a. init.Value a) ts)
 

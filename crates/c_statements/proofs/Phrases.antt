@@ -1,20 +1,21 @@
 -- Expressions in statements: each part as an equation.
 use Rattle.std.proofs.Common.{◌≡◌, refl, ℕ, zero, Bool, true, false, cond, List, Option, Some, None, ap, ◌∙◌}
 use Rattle.grammar.specs.Parts.{Return, Call}
-use Rattle.grammar.specs.Parser.{Outcome, Got, Bad, begins, after, deepen}
+use Rattle.grammar.specs.Parser.{Outcome, Got, Bad, after, deepen}
 use Rattle.c_tree.specs.declared.expressions.Expr.{Expr}
 use Rattle.c_grammar.specs.declared.Sign.{Sign}
 use Rattle.c_grammar.specs.declared.Sign.TheVariants as k
 use Rattle.c_grammar.specs.Lexemes.{Lexeme, is}
 use Rattle.c_grammar.specs.Rules.{Scope, Expression, MaybeExpression}
 use Rattle.c_grammar.specs.Expressions.{Reading}
-use Rattle.c_grammar.specs.Grammar.{c_hints, starts_expression}
+use Rattle.c_grammar.specs.Grammar.{starts_expression}
 use Rattle.c_grammar.specs.Statements.{maybe_expression}
 use Rattle.c_input.specs.Input.{sees, behind}
 use Rattle.c_input.specs.Reads.{named, reads}
 use Rattle.c_input.proofs.Steps.{plain_rule, max_zero}
 use Rattle.c_statements.specs.Forms.{condition, expression_until}
-use Rattle.c_statements.proofs.Gathered.{told_by, one_call, either, sees_alike, or_false}
+use Rattle.c_input.proofs.Choices.{sees_first, either}
+use Rattle.c_statements.proofs.Gathered.{told_by, one_call}
 
 abbrev some_expression : Scope → Reading (Option Expr)
 some_expression s = Call (Expression s) (λ a. Return (Some a))
@@ -23,7 +24,7 @@ pub maybe_rule : (room : ℕ) (s : Scope) (ts : List Lexeme)
     → named room (MaybeExpression s) ts ≡ cond (sees (starts_expression s) ts) (told_by (λ a. Some a) (named room (Expression s) ts)) (Got None 0 ts)
 maybe_rule room s ts =
     plain_rule room (MaybeExpression s) ts (maybe_expression s) refl
-    ∙ either (sees_alike (begins c_hints (some_expression s)) (starts_expression s) (λ t. or_false (starts_expression s t)) ts)
+    ∙ either (sees_first (starts_expression s) ts)
     (one_call (named room) (Expression s) (λ a. Some a) ts) refl
 
 -- a token behind what was read

@@ -1,19 +1,20 @@
 -- Statements by their first token.
-use Rattle.std.proofs.Common.{◌≡◌, refl, ℕ, zero, ◌-◌, ◌<◌, Bool, true, false, cond, ◌&&◌, ◌||◌, List, ap, ◌∙◌, sym}
-use Rattle.grammar.specs.Parser.{Outcome, Got, Bad, begins, after, deepen, one_more}
+use Rattle.std.proofs.Common.{◌≡◌, refl, ℕ, zero, ◌-◌, ◌<◌, Bool, true, false, cond, ◌&&◌, List, ap, ◌∙◌, sym}
+use Rattle.grammar.specs.Parser.{Outcome, Got, Bad, after, deepen, one_more}
 use Rattle.c_tree.specs.declared.statements.BlockItem.{BlockItem}
 use Rattle.c_tree.specs.declared.statements.Stmt.{Stmt}
 use Rattle.c_tree.specs.declared.statements.Stmt.TheVariants as stmt
 use Rattle.c_grammar.specs.declared.Sign.TheVariants as k
 use Rattle.c_grammar.specs.Lexemes.{Lexeme, is, place}
 use Rattle.c_grammar.specs.Rules.{Scope, BlockRead, StatementRead, Statement, Block, BlockItems}
-use Rattle.c_grammar.specs.Grammar.{c_hints, starts_expression, starts_statement}
+use Rattle.c_grammar.specs.Grammar.{starts_statement}
 use Rattle.c_grammar.specs.Statements.{whole, statement}
 use Rattle.c_input.specs.Input.{head, sees, behind}
 use Rattle.c_input.specs.Reads.{named, reads}
 use Rattle.c_input.proofs.Steps.{node_rule, full_rule}
 use Rattle.c_statements.specs.Forms.{block_form, else_parts, if_parts, if_form, while_form, do_test, do_form, for_step, for_parts, for_form, break_form, continue_form, return_form, expression_form, plain_kinds}
-use Rattle.c_statements.proofs.Gathered.{told_by, sees_alike, twice}
+use Rattle.c_input.proofs.Choices.{twice}
+use Rattle.c_statements.proofs.Gathered.{told_by}
 use Rattle.c_statements.proofs.Blocked.{block_rule}
 
 -- the `;` behind a word
@@ -75,48 +76,6 @@ statement_rule room s loop ts l =
     ∙ push (sees (is k.OpenBrace) ts) _ _ (inside (room - 1) s loop ts)
     (push (sees (is k.If) ts) _ _ _ (push (sees (is k.While) ts) _ _ _ (push (sees (is k.Do) ts) _ _ _ (push (sees (is k.For) ts) _ _ _ refl))))
 
--- the tests of the kinds in their order, and of `starts_statement`
-alike : (o i w d f b c r l e m : Bool)
-    → (o || (i || (w || (d || (f || ((b && l) || ((c && l) || (r || (e || m))))))))) ≡ ((o || (i || (w || (d || (f || (r || (m || false))))))) || (((b || (c || false)) && l) || e))
-alike true i w d f b c r l e m = refl
-alike false true w d f b c r l e m = refl
-alike false false true d f b c r l e m = refl
-alike false false false true f b c r l e m = refl
-alike false false false false true b c r l e m = refl
-alike false false false false false b c true l e m = right b c l (e || m)
-  where
-    right : (b c l x : Bool) → ((b && l) || ((c && l) || true)) ≡ true
-    right true true true x = refl
-    right true true false x = refl
-    right true false true x = refl
-    right true false false x = refl
-    right false true true x = refl
-    right false true false x = refl
-    right false false l x = refl
-alike false false false false false true c false true e true = refl
-alike false false false false false true c false true e false = refl
-alike false false false false false true true false false true true = refl
-alike false false false false false true true false false true false = refl
-alike false false false false false true true false false false true = refl
-alike false false false false false true true false false false false = refl
-alike false false false false false true false false false true true = refl
-alike false false false false false true false false false true false = refl
-alike false false false false false true false false false false true = refl
-alike false false false false false true false false false false false = refl
-alike false false false false false false true false true e true = refl
-alike false false false false false false true false true e false = refl
-alike false false false false false false true false false true true = refl
-alike false false false false false false true false false true false = refl
-alike false false false false false false true false false false true = refl
-alike false false false false false false true false false false false = refl
-alike false false false false false false false false l true true = refl
-alike false false false false false false false false l true false = refl
-alike false false false false false false false false l false true = refl
-alike false false false false false false false false l false false = refl
-
 pub no_statement : (room : ℕ) (s : Scope) (loop : Bool) (ts : List Lexeme) → room ≡ 0
     → named room (Statement s loop) ts ≡ Bad (sees (starts_statement s loop) ts) ts
-no_statement room s loop ts e =
-    full_rule room (Statement s loop) ts (statement s loop) refl e
-    ∙ ap (λ b. Bad b ts) (sees_alike (begins c_hints (statement s loop)) (starts_statement s loop)
-    (λ t. alike (is k.OpenBrace t) (is k.If t) (is k.While t) (is k.Do t) (is k.For t) (is k.Break t) (is k.Continue t) (is k.Return t) loop (starts_expression s t) (is k.Semicolon t)) ts)
+no_statement room s loop ts e = full_rule room (Statement s loop) ts (statement s loop) refl e

@@ -7,14 +7,13 @@ ghost use Rattle.c_statements.specs.Forms.{block_item, item_read};
 ghost use Rattle.c_statements.specs.Nested.{ReadsStatements};
 ghost use Rattle.c_statements.specs.Scoped.{Leaves, Extends};
 
-use crate::begins::{begins_item, begins_specifiers};
+use crate::begins::begins_item;
 use crate::declarations::declaration;
-use crate::depths::deeper;
 use crate::parser::Statements;
 use crate::values::{Block, Statement};
-use c_declarators::Home;
 use c_grammar::Sign;
-use c_input::{Input, Limits, Read, Refusal};
+use c_input::{Input, Limits, Read, Refusal, deeper};
+use c_starts::{Home, begins_specifiers};
 use c_tree::BlockItem;
 use sqlite_items::Items;
 use std::alloc::Global;

@@ -9,13 +9,12 @@ ghost use Rattle.c_input.specs.Reads.{named, reads, Says};
 ghost use Rattle.c_statements.specs.Forms.{else_parts, if_parts, if_form, while_form, do_test, do_form};
 ghost use Rattle.c_statements.specs.Nested.{ReadsStatements};
 
-use crate::depths::deeper;
 use crate::jumps::whole;
 use crate::parser::Statements;
 use crate::parts::condition;
 use crate::values::Statement;
 use c_grammar::Sign;
-use c_input::{Input, Limits, Read, Refusal};
+use c_input::{Input, Limits, Read, Refusal, deeper};
 use c_tree::{Expr, Stmt};
 use sqlite_items::Boxed;
 use std::alloc::{AllocError, Global};

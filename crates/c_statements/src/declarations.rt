@@ -9,14 +9,13 @@ ghost use Rattle.c_input.specs.declared.read.Refusal.TheVariants.{NoMemory};
 ghost use Rattle.c_declarators.specs.Named.{text_of};
 ghost use Rattle.c_statements.specs.Scoped.{Leaves, Extends, with_value, one_declarator, one_read, declarators_read, declaration_read, behind_declarators};
 
-use crate::begins::begins_specifiers;
-use crate::depths::deeper;
 use crate::initializers::initializer;
-use crate::specs::{has_typedef, specs_place};
-use c_declarators::{Bracket, Home, Naming};
+use crate::specs::has_typedef;
+use c_declarators::{Bracket, Naming};
 use c_grammar::Sign;
-use c_input::{Input, Limits, Read, Refusal};
+use c_input::{Input, Limits, Read, Refusal, deeper};
 use c_nested::{declarator, specifiers};
+use c_starts::{Home, begins_specifiers, specs_place};
 use c_tree::{Decl, Declarator, InitDeclarator};
 use sqlite_items::Items;
 use std::alloc::Global;

@@ -10,15 +10,13 @@ ghost use Rattle.c_statements.specs.Forms.{for_start, start_read, for_step, for_
 ghost use Rattle.c_statements.specs.Nested.{ReadsStatements};
 ghost use Rattle.c_statements.specs.Scoped.{Leaves, Extends};
 
-use crate::begins::begins_specifiers;
 use crate::declarations::declaration;
-use crate::depths::deeper;
 use crate::parser::Statements;
 use crate::parts::expression_until;
 use crate::values::Statement;
-use c_declarators::Home;
 use c_grammar::Sign;
-use c_input::{Input, Limits, Read, Refusal};
+use c_input::{Input, Limits, Read, Refusal, deeper};
+use c_starts::{Home, begins_specifiers};
 use c_tree::{Expr, ForStart, Stmt};
 use sqlite_items::Boxed;
 use std::alloc::{AllocError, Global};

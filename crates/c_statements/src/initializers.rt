@@ -5,10 +5,9 @@ ghost use Rattle.c_grammar.specs.Rules.{Initializer, Braces, Initializers as Nam
 ghost use Rattle.c_input.specs.Reads.{named, Says};
 ghost use Rattle.c_statements.specs.Nested.{ReadsInitializers};
 
-use crate::depths::deeper;
 use c_expressions::Wanted;
 use c_grammar::Sign;
-use c_input::{Input, Limits, Read, Refusal};
+use c_input::{Input, Limits, Read, Refusal, deeper};
 use c_nested::expression;
 use c_tree::Init;
 use sqlite_items::Items;

@@ -9,15 +9,16 @@ ghost use Rattle.c_input.specs.Input.{sees, after_token};
 ghost use Rattle.c_input.specs.Reads.{named, reads, Says};
 ghost use Rattle.c_statements.specs.Forms.{return_form, expression_form};
 
-use crate::parts::{expression_until, maybe_expression, place_of};
+use crate::parts::{expression_until, maybe_expression};
 use crate::values::Statement;
 use c_grammar::Sign;
 use c_input::{Input, Limits, Read, Refusal, Seen};
+use c_starts::place_of;
 use c_tree::{Expr, Stmt};
 use sqlite_items::Boxed;
 use std::alloc::{AllocError, Global};
 
-/// A statement that ends in no `if`.
+/// A statement that does not end in an `if` without its `else`.
 pub fn whole(alloc: Global, tree: Stmt) -> Result<Statement, AllocError>
     ensures { IfOk result (λ statement. statement ≡ whole tree) }
 {

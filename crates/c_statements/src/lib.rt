@@ -6,7 +6,6 @@ mod blocks;
 mod body;
 mod branches;
 mod declarations;
-mod depths;
 mod externals;
 mod for_statements;
 mod initializers;

@@ -2,50 +2,16 @@
 
 ghost use Rattle.std.specs.Prelude.{◌≡◌, IfOk};
 ghost use Rattle.c_grammar.specs.Rules.{MaybeExpression};
-ghost use Rattle.c_grammar.specs.Trees.{place_of, first_place};
 ghost use Rattle.c_input.specs.Reads.{named, reads, Says};
 ghost use Rattle.c_statements.specs.Forms.{condition, expression_until};
 
-use crate::begins::begins_expression;
 use c_expressions::Wanted;
 use c_grammar::Sign;
 use c_input::{Input, Limits, Read, Refusal};
 use c_nested::expression;
-use c_tree::{Expr, Span};
+use c_starts::begins_expression;
+use c_tree::Expr;
 use std::alloc::Global;
-
-/// The place of adjacent strings.
-fn first_place(spans: &[Span]) -> u32
-    ensures { result ≡ first_place spans.now }
-{
-    match spans.split_first() {
-        None => 0,
-        Some((span, _)) => span.start,
-    }
-}
-
-/// The place of an expression, that of its first token.
-pub fn place_of(expr: &Expr) -> u32
-    ensures { result ≡ place_of expr.now }
-{
-    match expr {
-        Expr::Name(span) => span.start,
-        Expr::Number(span) => span.start,
-        Expr::Character(span) => span.start,
-        Expr::Text(spans) => first_place(spans.as_slice()),
-        Expr::Parenthesised(place, _) => *place,
-        Expr::Index(place, _, _) => *place,
-        Expr::Call(place, _, _) => *place,
-        Expr::Access(place, _, _, _) => *place,
-        Expr::Step(place, _, _) => *place,
-        Expr::Unary(place, _, _) => *place,
-        Expr::SizeofType(place, _) => *place,
-        Expr::Cast(place, _, _) => *place,
-        Expr::Binary(place, _, _, _, _) => *place,
-        Expr::Conditional(place, _, _, _) => *place,
-        Expr::Assignment(place, _, _, _, _) => *place,
-    }
-}
 
 /// An expression, or none.
 #[tactic(auto, using(crate::proofs::Phrases::maybe_rule))]

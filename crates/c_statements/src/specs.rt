@@ -2,37 +2,9 @@
 
 ghost use Rattle.std.specs.Prelude.{◌≡◌, ℕ, ◌||◌, ◌∷◌, List};
 ghost use Rattle.c_tree.specs.declared.expressions.Spec.{Spec};
-ghost use Rattle.c_grammar.specs.Trees.{spec_place, specs_place, has_typedef};
+ghost use Rattle.c_grammar.specs.Trees.{has_typedef};
 
 use c_tree::{Spec, StorageWord};
-
-/// The place of a specifier.
-fn spec_place(spec: &Spec) -> u32
-    ensures { result ≡ spec_place spec.now }
-{
-    match spec {
-        Spec::Storage(place, _) => *place,
-        Spec::Function(place, _) => *place,
-        Spec::Qualifier(place, _) => *place,
-        Spec::Type(place, _) => *place,
-        Spec::TypedefName(name) => name.start,
-        Spec::Attribute(attribute) => attribute.place,
-        Spec::StructName(place, _) => *place,
-        Spec::Struct(place, _, _) => *place,
-        Spec::EnumName(place, _) => *place,
-        Spec::Enum(place, _, _) => *place,
-    }
-}
-
-/// The place of specifiers, that of the first of them.
-pub fn specs_place(specs: &[Spec]) -> u32
-    ensures { result ≡ specs_place specs.now }
-{
-    match specs.split_first() {
-        None => 0,
-        Some((spec, _)) => spec_place(spec),
-    }
-}
 
 /// Whether the word is `typedef`.
 fn is_typedef_word(word: StorageWord) -> bool

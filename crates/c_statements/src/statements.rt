@@ -18,7 +18,7 @@ use c_input::{Input, Limits, Read, Refusal};
 use c_tree::Stmt;
 use std::alloc::Global;
 
-/// Whether a word that stands in loops alone comes next.
+/// Whether this word comes next, in a loop.
 #[tactic(auto, using(c_input::proofs::Steps::sees_none, c_input::proofs::Steps::sees_head))]
 fn is_in_loop(sign: Sign, in_loop: bool, input: &Input<'_>) -> bool
     ensures { result ≡ sees (λ t. is sign t && in_loop) input.now.tokens }

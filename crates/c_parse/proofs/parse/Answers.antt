@@ -1,7 +1,9 @@
 -- What is answered is all that is so of the tokens.
-use Rattle.std.proofs.Common.{rules}
 use Rattle.c_parse.proofs.Laws.{parsed, one_tree, not_both, one_refusal, if_bad}
 use Rattle.c_parse.proofs.parse.Goals as goal
+
+pub returns-in-Ok-clause-parsed : goal.returns-in-Ok-clause-parsed
+returns-in-Ok-clause-parsed c = parsed c.args.source.now c.args.tokens.now c.in-Ok.tree c.in-Ok.ensures
 
 pub returns-in-Ok-clause-only_parsed : goal.returns-in-Ok-clause-only_parsed
 returns-in-Ok-clause-only_parsed c = λ other p.

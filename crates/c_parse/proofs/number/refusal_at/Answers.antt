@@ -1,5 +1,5 @@
 -- The refused token is the one of which so many are left.
-use Rattle.std.proofs.Common.{◌≡◌, ◌≤◌, length, rules, refl, arith}
+use Rattle.std.proofs.Common.{◌≤◌, length, rules, refl, arith}
 use Rattle.c_parse.proofs.Places.{left_within, at_end, at_token}
 use Rattle.c_parse.proofs.number.refusal_at.Goals as goal
 

@@ -1,7 +1,7 @@
 use Rattle.c_grammar.specs.declared.Sign.TheVariants as k
 use Rattle.c_grammar.specs.Lexemes.{is}
 use Rattle.c_declarators.specs.Parts.{enumerator}
-use Rattle.c_declarators.proofs.Then.{falls}
+use Rattle.c_input.proofs.Then.{falls}
 use Rattle.c_declarators.proofs.parser.Declarators.enumerators.Goals as goal
 
 pub each-smaller : goal.each-smaller

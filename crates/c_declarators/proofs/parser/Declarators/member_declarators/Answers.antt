@@ -1,7 +1,7 @@
 use Rattle.c_grammar.specs.declared.Sign.TheVariants as k
 use Rattle.c_grammar.specs.Lexemes.{is}
 use Rattle.c_grammar.specs.Rules.{Declarator, Membered, Unknown}
-use Rattle.c_declarators.proofs.Then.{falls_rule}
+use Rattle.c_input.proofs.Then.{falls_rule}
 use Rattle.c_declarators.proofs.parser.Declarators.member_declarators.Goals as goal
 
 pub each-smaller : goal.each-smaller

@@ -5,7 +5,7 @@ use Rattle.c_grammar.specs.Lexemes.{is}
 use Rattle.c_grammar.specs.Rules.{Scope}
 use Rattle.c_grammar.specs.Declarators.{hide}
 use Rattle.c_input.specs.Input.{Input, sees, behind}
-use Rattle.c_declarators.specs.Named.{home_of}
+use Rattle.c_starts.specs.Homes.{home_of}
 use Rattle.c_declarators.proofs.Listing.{comma_less, goes_on, ends_so, cut_on, mark_on}
 use Rattle.c_declarators.proofs.parser.Declarators.param_list.Goals as goal
 

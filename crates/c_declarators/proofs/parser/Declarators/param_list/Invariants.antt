@@ -3,7 +3,7 @@ use Rattle.std.proofs.Common.{◌≡◌, ◌≤◌, length}
 use Rattle.c_grammar.specs.Rules.{ParamList}
 use Rattle.c_input.specs.Input.{cut_scope}
 use Rattle.c_input.specs.Reads.{named}
-use Rattle.c_declarators.specs.Named.{home_of}
+use Rattle.c_starts.specs.Homes.{home_of}
 use Rattle.c_declarators.specs.Parameters.{behind_params}
 use Rattle.c_declarators.proofs.parser.Declarators.param_list.Given as goal
 

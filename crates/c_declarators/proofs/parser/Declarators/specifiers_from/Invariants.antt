@@ -1,7 +1,7 @@
 use Rattle.std.proofs.Common.{◌≡◌, length}
 use Rattle.c_grammar.specs.Rules.{Specs}
 use Rattle.c_input.specs.Reads.{named}
-use Rattle.c_declarators.specs.Named.{home_of}
+use Rattle.c_starts.specs.Homes.{home_of}
 use Rattle.c_declarators.specs.Specified.{behind_specs}
 use Rattle.c_declarators.proofs.parser.Declarators.specifiers_from.Given as goal
 
