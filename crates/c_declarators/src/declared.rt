@@ -54,7 +54,7 @@ pub enum Reach {
 /// of a `[` behind it whose array isn't read yet.
 #[derive(Drop)]
 pub struct Declared<'a> {
-    pub tree: Declarator,
+    pub tree: Boxed<Declarator>,
     pub reach: Reach,
     pub name: Option<&'a [u8]>,
     pub own: Items<&'a [u8]>,
@@ -103,29 +103,29 @@ fn own_names<'a>(reach: Reach, names: Items<&'a [u8]>, before: Items<&'a [u8]>) 
 
 impl<'a> Declared<'a> {
     /// Nothing yet, and perhaps the place of a `[` that was read before.
-    pub fn absent(alloc: Global, bracket: Option<u32>) -> Declared<'a>
-        ensures { result ≡ absent bracket }
+    pub fn absent(alloc: Global, bracket: Option<u32>) -> Result<Declared<'a>, AllocError>
+        ensures { IfOk result (λ x. x ≡ absent bracket) }
     {
-        Declared {
-            tree: Declarator::Absent,
+        Ok(Declared {
+            tree: Boxed::new(alloc, Declarator::Absent)?,
             reach: Reach::Nothing,
             name: None,
             own: Items::new(alloc),
             bracket,
-        }
+        })
     }
 
     /// A name.
-    pub fn named(alloc: Global, seen: &Seen<'a>) -> Declared<'a>
-        ensures { result ≡ named seen.now }
+    pub fn named(alloc: Global, seen: &Seen<'a>) -> Result<Declared<'a>, AllocError>
+        ensures { IfOk result (λ x. x ≡ named seen.now) }
     {
-        Declared {
-            tree: Declarator::Name(seen.span()),
+        Ok(Declared {
+            tree: Boxed::new(alloc, Declarator::Name(seen.span()))?,
             reach: Reach::NameAlone,
             name: Some(seen.text()),
             own: Items::new(alloc),
             bracket: None,
-        }
+        })
     }
 
     /// A pointer to what is declared so.
@@ -138,7 +138,7 @@ impl<'a> Declared<'a> {
         ensures { IfOk result (λ x. x ≡ pointer_to place qualifiers target.entry) }
     {
         Ok(Declared {
-            tree: Declarator::Pointer(place, qualifiers, Boxed::new(alloc, target.tree)?),
+            tree: Boxed::new(alloc, Declarator::Pointer(place, qualifiers, target.tree))?,
             reach: Reach::More,
             name: target.name,
             own: target.own,
@@ -155,7 +155,7 @@ impl<'a> Declared<'a> {
         ensures { IfOk result (λ x. x ≡ grouped place inner.entry) }
     {
         Ok(Declared {
-            tree: Declarator::Parenthesised(place, Boxed::new(alloc, inner.tree)?),
+            tree: Boxed::new(alloc, Declarator::Parenthesised(place, inner.tree))?,
             reach: inner.reach.in_group(),
             name: inner.name,
             own: inner.own,
@@ -173,7 +173,7 @@ impl<'a> Declared<'a> {
         ensures { IfOk result (λ x. x ≡ array_of element.entry place size) }
     {
         Ok(Declared {
-            tree: Declarator::Array(Boxed::new(alloc, element.tree)?, place, size),
+            tree: Boxed::new(alloc, Declarator::Array(element.tree, place, size))?,
             reach: Reach::More,
             name: element.name,
             own: element.own,
@@ -191,13 +191,11 @@ impl<'a> Declared<'a> {
     ) -> Result<Declared<'a>, AllocError>
         ensures { IfOk result (λ x. x ≡ function_of given.entry place list.entry attributes) }
     {
+        let given_tree = given.tree;
+        let params = parameters_of(list.params);
+        let tree = Declarator::Function(given_tree, place, params, attributes.attributes);
         Ok(Declared {
-            tree: Declarator::Function(
-                Boxed::new(alloc, given.tree)?,
-                place,
-                parameters_of(list.params),
-                attributes.attributes,
-            ),
+            tree: Boxed::new(alloc, tree)?,
             reach: Reach::Called,
             name: given.name,
             own: own_names(given.reach, list.names, given.own),

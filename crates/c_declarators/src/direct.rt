@@ -47,7 +47,7 @@ pub fn function_rest<'a>(
 
 impl<
     'a,
-    C: Fn(Global, Limits, &mut Input<'a>) -> Result<Read<Expr>, Refusal>,
+    C: Fn(Global, Limits, &mut Input<'a>) -> Result<Read<Boxed<Expr>>, Refusal>,
     D: Fn(Global, Limits, Naming, Bracket, &mut Input<'a>) -> Result<Read<Declared<'a>>, Refusal>,
     M: Fn(Global, Limits, &mut Input<'a>) -> Result<Read<Items<Member>>, Refusal>,
 > Declarators<C, D, M> {
@@ -115,20 +115,20 @@ impl<
     {
         if let Some(place) = opened_at(bracket) {
             return Ok(Read {
-                value: Declared::absent(self.alloc, Some(place)),
+                value: Declared::absent(self.alloc, Some(place))?,
                 depth: 0,
             });
         }
         if begins_name(naming, bracket, input) {
             let name = input.take();
             return Ok(Read {
-                value: Declared::named(self.alloc, &name),
+                value: Declared::named(self.alloc, &name)?,
                 depth: 0,
             });
         }
         if may_lack(naming, bracket) && !input.is(Sign::OpenParen) {
             return Ok(Read {
-                value: Declared::absent(self.alloc, None),
+                value: Declared::absent(self.alloc, None)?,
                 depth: 0,
             });
         }
@@ -225,9 +225,9 @@ impl<
         }
         let _closed = input.take();
         let depth = left.depth.max(size.depth) + 1;
-        let written = Boxed::new(self.alloc, size.value)?;
+        let written = Some(size.value);
         Ok(Read {
-            value: Declared::array_of(self.alloc, left.value, place, Some(written))?,
+            value: Declared::array_of(self.alloc, left.value, place, written)?,
             depth,
         })
     }

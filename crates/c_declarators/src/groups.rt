@@ -21,7 +21,7 @@ use c_input::{Input, Limits, Read, Refusal};
 use c_specifiers::clang_words;
 use c_starts::{Home, begins_specifiers};
 use c_tree::{Attr, AttrSpelling, AttrWord, Expr, Member, Spec};
-use sqlite_items::Items;
+use sqlite_items::{Boxed, Items};
 use std::alloc::{AllocError, Global};
 
 /// The attribute in brackets that stands at the front of a parameter.
@@ -39,7 +39,7 @@ fn bracketed(alloc: Global, place: u32, words: Items<AttrWord>) -> Result<Items<
 
 impl<
     'a,
-    C: Fn(Global, Limits, &mut Input<'a>) -> Result<Read<Expr>, Refusal>,
+    C: Fn(Global, Limits, &mut Input<'a>) -> Result<Read<Boxed<Expr>>, Refusal>,
     D: Fn(Global, Limits, Naming, Bracket, &mut Input<'a>) -> Result<Read<Declared<'a>>, Refusal>,
     M: Fn(Global, Limits, &mut Input<'a>) -> Result<Read<Items<Member>>, Refusal>,
 > Declarators<C, D, M> {
@@ -94,7 +94,7 @@ impl<
             return self.list_rest(limits, Home::Barred, Items::new(self.alloc), place, input);
         }
         if input.is(Sign::CloseParen) {
-            let nothing = Declared::absent(self.alloc, None);
+            let nothing = Declared::absent(self.alloc, None)?;
             let none = ParameterList::new(self.alloc);
             return function_rest(self.alloc, limits.room - 1, nothing, place, none, input);
         }
@@ -163,7 +163,7 @@ impl<
     {
         let given = self.param_list(limits.inside(), home, before, input)?;
         let inner = given.depth;
-        let nothing = Declared::absent(self.alloc, None);
+        let nothing = Declared::absent(self.alloc, None)?;
         let room = limits.room - 1;
         let rest = function_rest(self.alloc, room, nothing, place, given.value, input)?;
         let depth = inner.max(rest.depth);

@@ -19,12 +19,12 @@ use std::alloc::Global;
 fn tree_of(declared: Declared<'_>) -> Declarator
     ensures { result ≡ declared.entry.tree }
 {
-    declared.tree
+    declared.tree.into_inner()
 }
 
 impl<
     'a,
-    C: Fn(Global, Limits, &mut Input<'a>) -> Result<Read<Expr>, Refusal>,
+    C: Fn(Global, Limits, &mut Input<'a>) -> Result<Read<Boxed<Expr>>, Refusal>,
     D: Fn(Global, Limits, Naming, Bracket, &mut Input<'a>) -> Result<Read<Declared<'a>>, Refusal>,
     M: Fn(Global, Limits, &mut Input<'a>) -> Result<Read<Items<Member>>, Refusal>,
 > Declarators<C, D, M> {
@@ -125,7 +125,7 @@ impl<
         Ok(Read {
             value: Enumerator {
                 name,
-                value: Some(Boxed::new(self.alloc, value.value)?),
+                value: Some(value.value),
             },
             depth: value.depth,
         })

@@ -108,25 +108,21 @@ fn parameter<'a>(specs: Items<Spec>, declared: Declared<'a>) -> NamedParam<'a>
         param: Param {
             place: specs_place(specs.as_slice()),
             specs,
-            declarator: declared.tree,
+            declarator: declared.tree.into_inner(),
         },
         name: declared.name,
     }
 }
 
 /// A type name by its specifiers and its declarator.
-fn type_name(
-    alloc: Global,
-    specs: Items<Spec>,
-    declared: Declared<'_>,
-) -> Result<TypeName, AllocError>
-    ensures { IfOk result (λ name. name ≡ record { place = specs_place specs; specs = specs; declarator = declared.entry.tree }) }
+fn type_name(specs: Items<Spec>, declared: Declared<'_>) -> TypeName
+    ensures { result ≡ record { place = specs_place specs; specs = specs; declarator = declared.entry.tree } }
 {
-    Ok(TypeName {
+    TypeName {
         place: specs_place(specs.as_slice()),
         specs,
-        declarator: Boxed::new(alloc, declared.tree)?,
-    })
+        declarator: declared.tree,
+    }
 }
 
 /// All of these specifiers.
@@ -208,7 +204,7 @@ fn hide<'a>(name: Option<&'a [u8]>, input: &mut Input<'a>) -> Result<(), Refusal
 
 impl<
     'a,
-    C: Fn(Global, Limits, &mut Input<'a>) -> Result<Read<Expr>, Refusal>,
+    C: Fn(Global, Limits, &mut Input<'a>) -> Result<Read<Boxed<Expr>>, Refusal>,
     D: Fn(Global, Limits, Naming, Bracket, &mut Input<'a>) -> Result<Read<Declared<'a>>, Refusal>,
     M: Fn(Global, Limits, &mut Input<'a>) -> Result<Read<Items<Member>>, Refusal>,
 > Declarators<C, D, M> {
@@ -229,7 +225,7 @@ impl<
         let depth = specifiers.depth.max(declared.depth);
         let specs = specifiers.value.specs;
         Ok(Read {
-            value: type_name(self.alloc, specs, declared.value)?,
+            value: type_name(specs, declared.value),
             depth,
         })
     }

@@ -9,7 +9,7 @@ ghost use Rattle.c_declarators.specs.Nested.{Nested};
 use crate::declared::{Bracket, Declared, Naming};
 use c_input::{Input, Limits, Read, Refusal};
 use c_tree::{Expr, Member};
-use sqlite_items::Items;
+use sqlite_items::{Boxed, Items};
 use std::alloc::Global;
 
 /// The rules of specifiers and declarators. What leads back to them is read by function values, so that no rule calls
@@ -24,7 +24,7 @@ pub struct Declarators<C, D, M> {
 
 impl<
     'a,
-    C: Fn(Global, Limits, &mut Input<'a>) -> Result<Read<Expr>, Refusal>,
+    C: Fn(Global, Limits, &mut Input<'a>) -> Result<Read<Boxed<Expr>>, Refusal>,
     D: Fn(Global, Limits, Naming, Bracket, &mut Input<'a>) -> Result<Read<Declared<'a>>, Refusal>,
     M: Fn(Global, Limits, &mut Input<'a>) -> Result<Read<Items<Member>>, Refusal>,
 > Declarators<C, D, M> {
@@ -64,7 +64,7 @@ impl<
         &self,
         limits: Limits,
         input: &mut Input<'a>,
-    ) -> Result<Read<Expr>, Refusal>
+    ) -> Result<Read<Boxed<Expr>>, Refusal>
         requires nested { Nested (2 * (limits.opens + limits.room)) (C.pre self.now.conditional) (C.post self.now.conditional) (D.pre self.now.declarator) (D.post self.now.declarator) (M.pre self.now.members) (M.post self.now.members) }
         requires room { 0 < limits.room }
         ensures reads { Says (named (limits.room - 1) (Conditional input.old.scope) input.old.tokens) result input.new.tokens }
@@ -78,7 +78,7 @@ impl<
         &self,
         limits: Limits,
         input: &mut Input<'a>,
-    ) -> Result<Read<Expr>, Refusal>
+    ) -> Result<Read<Boxed<Expr>>, Refusal>
         requires nested { Nested (2 * (limits.opens + limits.room) + 1) (C.pre self.now.conditional) (C.post self.now.conditional) (D.pre self.now.declarator) (D.post self.now.declarator) (M.pre self.now.members) (M.post self.now.members) }
         ensures reads { Says (named limits.room (Conditional input.old.scope) input.old.tokens) result input.new.tokens }
         ensures kept { IfOk result (λ read. input.new.scope ≡ input.old.scope) }

@@ -12,7 +12,7 @@ use crate::parser::Declarators;
 use c_grammar::Sign;
 use c_input::{Input, Limits, Read, Refusal, Seen};
 use c_tree::{Expr, Member, PointerQualifier, Qualifier};
-use sqlite_items::Items;
+use sqlite_items::{Boxed, Items};
 use std::alloc::Global;
 
 /// The qualifier that this word is.
@@ -55,7 +55,7 @@ fn qualifiers(
 
 impl<
     'a,
-    C: Fn(Global, Limits, &mut Input<'a>) -> Result<Read<Expr>, Refusal>,
+    C: Fn(Global, Limits, &mut Input<'a>) -> Result<Read<Boxed<Expr>>, Refusal>,
     D: Fn(Global, Limits, Naming, Bracket, &mut Input<'a>) -> Result<Read<Declared<'a>>, Refusal>,
     M: Fn(Global, Limits, &mut Input<'a>) -> Result<Read<Items<Member>>, Refusal>,
 > Declarators<C, D, M> {

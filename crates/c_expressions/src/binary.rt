@@ -112,20 +112,19 @@ fn next_level(from: Operators, tightest: Operators, input: &Input<'_>) -> Option
 /// The node of a binary operation.
 fn binary_tree(
     alloc: Global,
-    left: Expr,
+    left: Boxed<Expr>,
     operator: BinaryOperator,
     place: u32,
-    right: Expr,
-) -> Result<Expr, AllocError>
+    right: Boxed<Expr>,
+) -> Result<Boxed<Expr>, AllocError>
     ensures { IfOk result (λ tree. tree ≡ Expr.Binary (place_of left) left operator place right) }
 {
-    let start = place_of(&left);
-    let left = Boxed::new(alloc, left)?;
-    Ok(Expr::Binary(start, left, operator, place, Boxed::new(alloc, right)?))
+    let start = place_of(left.get());
+    Boxed::new(alloc, Expr::Binary(start, left, operator, place, right))
 }
 
 impl<
-    E: Fn(Global, Limits, Wanted, &mut Input<'_>) -> Result<Read<Expr>, Refusal>,
+    E: Fn(Global, Limits, Wanted, &mut Input<'_>) -> Result<Read<Boxed<Expr>>, Refusal>,
     T: Fn(Global, Limits, &mut Input<'_>) -> Result<Read<TypeName>, Refusal>,
 > Expressions<E, T> {
     /// Binary operations of a level and of those that bind tighter. Behind an operator no tighter one goes on with what
@@ -136,7 +135,7 @@ impl<
         limits: Limits,
         from: Operators,
         input: &mut Input<'_>,
-    ) -> Result<Read<Expr>, Refusal>
+    ) -> Result<Read<Boxed<Expr>>, Refusal>
         requires nested { Nested (2 * (limits.opens + limits.room)) (E.pre self.now.expression) (E.post self.now.expression) (T.pre self.now.type_name) (T.post self.now.type_name) }
         ensures reads { Says (named limits.room (Binary (level_of from) input.old.scope) input.old.tokens) result input.new.tokens }
         ensures kept { IfOk result (λ read. input.new.scope ≡ input.old.scope) }
@@ -162,9 +161,9 @@ impl<
         &self,
         limits: Limits,
         level: Operators,
-        left: Read<Expr>,
+        left: Read<Boxed<Expr>>,
         input: &mut Input<'_>,
-    ) -> Result<Read<Expr>, Refusal>
+    ) -> Result<Read<Boxed<Expr>>, Refusal>
         requires nested { Nested (2 * (limits.opens + limits.room)) (E.pre self.now.expression) (E.post self.now.expression) (T.pre self.now.type_name) (T.post self.now.type_name) }
         requires room { left.depth < limits.room }
         ensures reads { Says (binary_node left.value left.depth (binary_operator (head input.old.tokens).sign) (place (head input.old.tokens)) (on_right (limits.room - 1) level input.old.scope (behind input.old.tokens))) result input.new.tokens }
@@ -189,12 +188,12 @@ impl<
     pub fn joined(
         &self,
         limits: Limits,
-        left: Read<Expr>,
+        left: Read<Boxed<Expr>>,
         operator: BinaryOperator,
         place: u32,
         wanted: Wanted,
         input: &mut Input<'_>,
-    ) -> Result<Read<Expr>, Refusal>
+    ) -> Result<Read<Boxed<Expr>>, Refusal>
         requires nested { Nested (2 * (limits.opens + limits.room)) (E.pre self.now.expression) (E.post self.now.expression) (T.pre self.now.type_name) (T.post self.now.type_name) }
         requires room { left.depth < limits.room }
         ensures reads { Says (binary_node left.value left.depth operator place (named_expression (limits.room - 1) wanted input.old.scope input.old.tokens)) result input.new.tokens }

@@ -9,10 +9,11 @@ use crate::parser::Expressions;
 use crate::wanted::{Front, Operators, Wanted};
 use c_input::{Input, Limits, Read, Refusal};
 use c_tree::{Expr, TypeName};
+use sqlite_items::Boxed;
 use std::alloc::Global;
 
 impl<
-    E: Fn(Global, Limits, Wanted, &mut Input<'_>) -> Result<Read<Expr>, Refusal>,
+    E: Fn(Global, Limits, Wanted, &mut Input<'_>) -> Result<Read<Boxed<Expr>>, Refusal>,
     T: Fn(Global, Limits, &mut Input<'_>) -> Result<Read<TypeName>, Refusal>,
 > Expressions<E, T> {
     /// The expression that is wanted.
@@ -21,7 +22,7 @@ impl<
         limits: Limits,
         wanted: Wanted,
         input: &mut Input<'_>,
-    ) -> Result<Read<Expr>, Refusal>
+    ) -> Result<Read<Boxed<Expr>>, Refusal>
         requires nested { Nested (2 * (limits.opens + limits.room)) (E.pre self.now.expression) (E.post self.now.expression) (T.pre self.now.type_name) (T.post self.now.type_name) }
         ensures reads { Says (named_expression limits.room wanted input.old.scope input.old.tokens) result input.new.tokens }
         ensures kept { IfOk result (λ read. input.new.scope ≡ input.old.scope) }
@@ -44,7 +45,7 @@ impl<
         limits: Limits,
         level: Operators,
         input: &mut Input<'_>,
-    ) -> Result<Read<Expr>, Refusal>
+    ) -> Result<Read<Boxed<Expr>>, Refusal>
         requires nested { Nested (2 * (limits.opens + limits.room)) (E.pre self.now.expression) (E.post self.now.expression) (T.pre self.now.type_name) (T.post self.now.type_name) }
         ensures reads { Says (right_of limits.room level input.old.scope input.old.tokens) result input.new.tokens }
         ensures kept { IfOk result (λ read. input.new.scope ≡ input.old.scope) }

@@ -95,37 +95,43 @@ fn assignment_of(sign: Sign) -> AssignmentOperator
 }
 
 /// The node of a condition and its branches.
-fn conditional_tree(alloc: Global, test: Expr, then: Expr, other: Expr) -> Result<Expr, AllocError>
+fn conditional_tree(
+    alloc: Global,
+    test: Boxed<Expr>,
+    then: Boxed<Expr>,
+    other: Boxed<Expr>,
+) -> Result<Boxed<Expr>, AllocError>
     ensures { IfOk result (λ tree. tree ≡ Expr.Conditional (place_of test) test then other) }
 {
-    let place = place_of(&test);
-    let test = Boxed::new(alloc, test)?;
-    let then = Boxed::new(alloc, then)?;
-    Ok(Expr::Conditional(place, test, then, Boxed::new(alloc, other)?))
+    let place = place_of(test.get());
+    Boxed::new(alloc, Expr::Conditional(place, test, then, other))
 }
 
 /// The node of an assignment.
 fn assignment_tree(
     alloc: Global,
-    left: Expr,
+    left: Boxed<Expr>,
     operator: AssignmentOperator,
     place: u32,
-    right: Expr,
-) -> Result<Expr, AllocError>
+    right: Boxed<Expr>,
+) -> Result<Boxed<Expr>, AllocError>
     ensures { IfOk result (λ tree. tree ≡ Expr.Assignment (place_of left) left operator place right) }
 {
-    let start = place_of(&left);
-    let left = Boxed::new(alloc, left)?;
-    Ok(Expr::Assignment(start, left, operator, place, Boxed::new(alloc, right)?))
+    let start = place_of(left.get());
+    Boxed::new(alloc, Expr::Assignment(start, left, operator, place, right))
 }
 
 impl<
-    E: Fn(Global, Limits, Wanted, &mut Input<'_>) -> Result<Read<Expr>, Refusal>,
+    E: Fn(Global, Limits, Wanted, &mut Input<'_>) -> Result<Read<Boxed<Expr>>, Refusal>,
     T: Fn(Global, Limits, &mut Input<'_>) -> Result<Read<TypeName>, Refusal>,
 > Expressions<E, T> {
     /// An expression: assignments with commas between them.
     #[tactic(auto, using(crate::proofs::Chains::expression_begins, crate::proofs::Chains::expression_ends, crate::proofs::Chains::expression_full, crate::proofs::Chains::expression_goes, c_input::proofs::Steps::within, c_input::proofs::Steps::sees_less))]
-    pub fn expression(&self, limits: Limits, input: &mut Input<'_>) -> Result<Read<Expr>, Refusal>
+    pub fn expression(
+        &self,
+        limits: Limits,
+        input: &mut Input<'_>,
+    ) -> Result<Read<Boxed<Expr>>, Refusal>
         requires nested { Nested (2 * (limits.opens + limits.room)) (E.pre self.now.expression) (E.post self.now.expression) (T.pre self.now.type_name) (T.post self.now.type_name) }
         ensures reads { Says (named limits.room (Expression input.old.scope) input.old.tokens) result input.new.tokens }
         ensures kept { IfOk result (λ read. input.new.scope ≡ input.old.scope) }
@@ -153,13 +159,17 @@ impl<
 
     /// An assignment, or a conditional expression without one.
     #[tactic(auto, using(crate::proofs::Chains::assignment_begins, crate::proofs::Chains::assignment_ends, crate::proofs::Chains::assignment_full, crate::proofs::Chains::assignment_goes))]
-    pub fn assignment(&self, limits: Limits, input: &mut Input<'_>) -> Result<Read<Expr>, Refusal>
+    pub fn assignment(
+        &self,
+        limits: Limits,
+        input: &mut Input<'_>,
+    ) -> Result<Read<Boxed<Expr>>, Refusal>
         requires nested { Nested (2 * (limits.opens + limits.room)) (E.pre self.now.expression) (E.post self.now.expression) (T.pre self.now.type_name) (T.post self.now.type_name) }
         ensures reads { Says (named limits.room (Assignment input.old.scope) input.old.tokens) result input.new.tokens }
         ensures kept { IfOk result (λ read. input.new.scope ≡ input.old.scope) }
     {
         let left = self.conditional(limits, input)?;
-        if !assigns(&left.value, input) {
+        if !assigns(left.value.get(), input) {
             return Ok(left);
         }
         if left.depth >= limits.room {
@@ -180,11 +190,11 @@ impl<
     fn assigned(
         &self,
         limits: Limits,
-        left: Read<Expr>,
+        left: Read<Boxed<Expr>>,
         operator: AssignmentOperator,
         place: u32,
         input: &mut Input<'_>,
-    ) -> Result<Read<Expr>, Refusal>
+    ) -> Result<Read<Boxed<Expr>>, Refusal>
         requires nested { Nested (2 * (limits.opens + limits.room)) (E.pre self.now.expression) (E.post self.now.expression) (T.pre self.now.type_name) (T.post self.now.type_name) }
         requires room { left.depth < limits.room }
         ensures reads { Says (assignment_node left.value left.depth operator place (named (limits.room - 1) (Assignment input.old.scope) input.old.tokens)) result input.new.tokens }
@@ -199,13 +209,17 @@ impl<
 
     /// A conditional expression, or binary operations without a `?` behind them.
     #[tactic(auto, using(crate::proofs::Chains::conditional_begins, crate::proofs::Chains::conditional_ends, crate::proofs::Chains::conditional_full, crate::proofs::Chains::conditional_goes))]
-    pub fn conditional(&self, limits: Limits, input: &mut Input<'_>) -> Result<Read<Expr>, Refusal>
+    pub fn conditional(
+        &self,
+        limits: Limits,
+        input: &mut Input<'_>,
+    ) -> Result<Read<Boxed<Expr>>, Refusal>
         requires nested { Nested (2 * (limits.opens + limits.room)) (E.pre self.now.expression) (E.post self.now.expression) (T.pre self.now.type_name) (T.post self.now.type_name) }
         ensures reads { Says (named limits.room (Conditional input.old.scope) input.old.tokens) result input.new.tokens }
         ensures kept { IfOk result (λ read. input.new.scope ≡ input.old.scope) }
     {
         let test = self.binary(limits, Operators::OrOr, input)?;
-        if !asks(&test.value, input) {
+        if !asks(test.value.get(), input) {
             return Ok(test);
         }
         if test.depth >= limits.room {
@@ -220,9 +234,9 @@ impl<
     fn branches(
         &self,
         limits: Limits,
-        test: Read<Expr>,
+        test: Read<Boxed<Expr>>,
         input: &mut Input<'_>,
-    ) -> Result<Read<Expr>, Refusal>
+    ) -> Result<Read<Boxed<Expr>>, Refusal>
         requires nested { Nested (2 * (limits.opens + limits.room)) (E.pre self.now.expression) (E.post self.now.expression) (T.pre self.now.type_name) (T.post self.now.type_name) }
         requires room { test.depth < limits.room }
         ensures reads { Says (joined test.depth (reads (named (limits.room - 1)) (branches input.old.scope test.value) input.old.tokens)) result input.new.tokens }

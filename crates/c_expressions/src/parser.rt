@@ -9,6 +9,7 @@ ghost use Rattle.c_expressions.specs.Nested.{Nested};
 use crate::wanted::Wanted;
 use c_input::{Input, Limits, Read, Refusal};
 use c_tree::{Expr, TypeName};
+use sqlite_items::Boxed;
 use std::alloc::Global;
 
 /// The rules of expressions. What stands inside a node is read by function values, so that no rule calls itself.
@@ -20,7 +21,7 @@ pub struct Expressions<E, T> {
 }
 
 impl<
-    E: Fn(Global, Limits, Wanted, &mut Input<'_>) -> Result<Read<Expr>, Refusal>,
+    E: Fn(Global, Limits, Wanted, &mut Input<'_>) -> Result<Read<Boxed<Expr>>, Refusal>,
     T: Fn(Global, Limits, &mut Input<'_>) -> Result<Read<TypeName>, Refusal>,
 > Expressions<E, T> {
     /// An expression inside a node.
@@ -29,7 +30,7 @@ impl<
         limits: Limits,
         wanted: Wanted,
         input: &mut Input<'_>,
-    ) -> Result<Read<Expr>, Refusal>
+    ) -> Result<Read<Boxed<Expr>>, Refusal>
         requires nested { Nested (2 * (limits.opens + limits.room)) (E.pre self.now.expression) (E.post self.now.expression) (T.pre self.now.type_name) (T.post self.now.type_name) }
         requires room { 0 < limits.room }
         ensures reads { Says (named_expression (limits.room - 1) wanted input.old.scope input.old.tokens) result input.new.tokens }

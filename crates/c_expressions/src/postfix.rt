@@ -9,6 +9,7 @@ ghost use Rattle.c_expressions.specs.Parts.{goes_on, index_rest, call_rest, acce
 ghost use Rattle.c_expressions.specs.Nested.{Nested};
 
 use crate::parser::Expressions;
+use crate::primary::node;
 use crate::wanted::{Front, Wanted};
 use c_grammar::Sign;
 use c_input::{Input, Limits, Read, Refusal};
@@ -45,58 +46,61 @@ fn goes_on(left: &Expr, input: &Input<'_>) -> bool
 /// A member of what was read.
 fn accessed(
     alloc: Global,
-    left: Read<Expr>,
+    left: Read<Boxed<Expr>>,
     operator: AccessOperator,
     member: Span,
-) -> Result<Read<Expr>, Refusal>
+) -> Result<Read<Boxed<Expr>>, Refusal>
     requires { left.depth < u32.MAX }
     ensures value { IfOk result (λ read. read ≡ record { value = Expr.Access (place_of left.value) left.value operator member; depth = left.depth + 1 }) }
     ensures memory { IfErr result (λ refusal. refusal ≡ Refusal.NoMemory) }
 {
-    let place = place_of(&left.value);
-    Ok(Read {
-        value: Expr::Access(place, Boxed::new(alloc, left.value)?, operator, member),
-        depth: left.depth + 1,
-    })
+    let place = place_of(left.value.get());
+    let depth = left.depth + 1;
+    Ok(node(
+        alloc,
+        Expr::Access(place, left.value, operator, member),
+        depth,
+    )?)
 }
 
 /// What was read, at an index.
-fn indexed(alloc: Global, left: Read<Expr>, at: Read<Expr>) -> Result<Read<Expr>, Refusal>
+fn indexed(
+    alloc: Global,
+    left: Read<Boxed<Expr>>,
+    at: Read<Boxed<Expr>>,
+) -> Result<Read<Boxed<Expr>>, Refusal>
     requires { max left.depth at.depth < u32.MAX }
     ensures value { IfOk result (λ read. read ≡ record { value = Expr.Index (place_of left.value) left.value at.value; depth = max left.depth at.depth + 1 }) }
     ensures memory { IfErr result (λ refusal. refusal ≡ Refusal.NoMemory) }
 {
     let depth = left.depth.max(at.depth) + 1;
-    let place = place_of(&left.value);
-    let array = Boxed::new(alloc, left.value)?;
-    Ok(Read {
-        value: Expr::Index(place, array, Boxed::new(alloc, at.value)?),
-        depth,
-    })
+    let place = place_of(left.value.get());
+    Ok(node(alloc, Expr::Index(place, left.value, at.value), depth)?)
 }
 
 /// A call of what was read.
-fn called(alloc: Global, left: Read<Expr>, given: Read<Items<Expr>>) -> Result<Read<Expr>, Refusal>
+fn called(
+    alloc: Global,
+    left: Read<Boxed<Expr>>,
+    given: Read<Items<Expr>>,
+) -> Result<Read<Boxed<Expr>>, Refusal>
     requires { max left.depth given.depth < u32.MAX }
     ensures value { IfOk result (λ read. read ≡ record { value = Expr.Call (place_of left.value) left.value given.value; depth = max left.depth given.depth + 1 }) }
     ensures memory { IfErr result (λ refusal. refusal ≡ Refusal.NoMemory) }
 {
     let depth = left.depth.max(given.depth) + 1;
-    let place = place_of(&left.value);
-    Ok(Read {
-        value: Expr::Call(place, Boxed::new(alloc, left.value)?, given.value),
-        depth,
-    })
+    let place = place_of(left.value.get());
+    Ok(node(alloc, Expr::Call(place, left.value, given.value), depth)?)
 }
 
 /// The member that is accessed behind `.` or `->`.
 #[tactic(auto, using(c_input::proofs::Steps::max_zero))]
 fn access(
     alloc: Global,
-    left: Read<Expr>,
+    left: Read<Boxed<Expr>>,
     operator: AccessOperator,
     input: &mut Input<'_>,
-) -> Result<Read<Expr>, Refusal>
+) -> Result<Read<Boxed<Expr>>, Refusal>
     requires { left.depth < u32.MAX }
     ensures reads { Says (joined left.depth (reads (named 0) (access_rest left.value operator) input.old.tokens)) result input.new.tokens }
     ensures kept { IfOk result (λ read. input.new.scope ≡ input.old.scope) }
@@ -109,20 +113,22 @@ fn access(
 }
 
 /// A `++` or `--` behind what was read.
-fn stepped(alloc: Global, left: Read<Expr>, operator: StepOperator) -> Result<Read<Expr>, Refusal>
+fn stepped(
+    alloc: Global,
+    left: Read<Boxed<Expr>>,
+    operator: StepOperator,
+) -> Result<Read<Boxed<Expr>>, Refusal>
     requires { left.depth < u32.MAX }
     ensures value { IfOk result (λ read. read ≡ record { value = Expr.Step (place_of left.value) left.value operator; depth = left.depth + 1 }) }
     ensures memory { IfErr result (λ refusal. refusal ≡ Refusal.NoMemory) }
 {
-    let place = place_of(&left.value);
-    Ok(Read {
-        value: Expr::Step(place, Boxed::new(alloc, left.value)?, operator),
-        depth: left.depth + 1,
-    })
+    let place = place_of(left.value.get());
+    let depth = left.depth + 1;
+    Ok(node(alloc, Expr::Step(place, left.value, operator), depth)?)
 }
 
 impl<
-    E: Fn(Global, Limits, Wanted, &mut Input<'_>) -> Result<Read<Expr>, Refusal>,
+    E: Fn(Global, Limits, Wanted, &mut Input<'_>) -> Result<Read<Boxed<Expr>>, Refusal>,
     T: Fn(Global, Limits, &mut Input<'_>) -> Result<Read<TypeName>, Refusal>,
 > Expressions<E, T> {
     /// The arguments of a call, perhaps none.
@@ -144,7 +150,7 @@ impl<
         'each: loop {
             let argument = self.expression_inside(limits, Wanted::Assignment, input)?;
             depth = depth.max(argument.depth);
-            given.push(argument.value)?;
+            given.push(argument.value.into_inner())?;
             if !input.is(Sign::Comma) {
                 return Ok(Read {
                     value: given,
@@ -160,9 +166,9 @@ impl<
     fn index(
         &self,
         limits: Limits,
-        left: Read<Expr>,
+        left: Read<Boxed<Expr>>,
         input: &mut Input<'_>,
-    ) -> Result<Read<Expr>, Refusal>
+    ) -> Result<Read<Boxed<Expr>>, Refusal>
         requires nested { Nested (2 * (limits.opens + limits.room)) (E.pre self.now.expression) (E.post self.now.expression) (T.pre self.now.type_name) (T.post self.now.type_name) }
         requires room { left.depth < limits.room }
         ensures reads { Says (joined left.depth (reads (named (limits.room - 1)) (index_rest input.old.scope left.value) input.old.tokens)) result input.new.tokens }
@@ -181,9 +187,9 @@ impl<
     fn call(
         &self,
         limits: Limits,
-        left: Read<Expr>,
+        left: Read<Boxed<Expr>>,
         input: &mut Input<'_>,
-    ) -> Result<Read<Expr>, Refusal>
+    ) -> Result<Read<Boxed<Expr>>, Refusal>
         requires nested { Nested (2 * (limits.opens + limits.room)) (E.pre self.now.expression) (E.post self.now.expression) (T.pre self.now.type_name) (T.post self.now.type_name) }
         requires room { left.depth < limits.room }
         ensures reads { Says (joined left.depth (reads (named (limits.room - 1)) (call_rest input.old.scope left.value) input.old.tokens)) result input.new.tokens }
@@ -202,9 +208,9 @@ impl<
     fn step(
         &self,
         limits: Limits,
-        left: Read<Expr>,
+        left: Read<Boxed<Expr>>,
         input: &mut Input<'_>,
-    ) -> Result<Read<Expr>, Refusal>
+    ) -> Result<Read<Boxed<Expr>>, Refusal>
         requires nested { Nested (2 * (limits.opens + limits.room)) (E.pre self.now.expression) (E.post self.now.expression) (T.pre self.now.type_name) (T.post self.now.type_name) }
         requires room { left.depth < limits.room }
         ensures reads { Says (joined left.depth (step_reads (limits.room - 1) input.old.scope left.value input.old.tokens)) result input.new.tokens }
@@ -244,13 +250,13 @@ impl<
         limits: Limits,
         front: Front,
         input: &mut Input<'_>,
-    ) -> Result<Read<Expr>, Refusal>
+    ) -> Result<Read<Boxed<Expr>>, Refusal>
         requires nested { Nested (2 * (limits.opens + limits.room)) (E.pre self.now.expression) (E.post self.now.expression) (T.pre self.now.type_name) (T.post self.now.type_name) }
         ensures reads { Says (named limits.room (Postfix (front_of front) input.old.scope) input.old.tokens) result input.new.tokens }
         ensures kept { IfOk result (λ read. input.new.scope ≡ input.old.scope) }
     {
         let mut left = self.primary(limits, front, input)?;
-        'each: while goes_on(&left.value, input) {
+        'each: while goes_on(left.value.get(), input) {
             if left.depth >= limits.room {
                 return Err(Refusal::Refused(true));
             }

@@ -14,6 +14,7 @@ ghost use Rattle.c_expressions.specs.Nodes.{unary_node, operation, prefix_first,
 ghost use Rattle.c_expressions.specs.Nested.{Nested};
 
 use crate::parser::Expressions;
+use crate::primary::node;
 use crate::wanted::{Front, Wanted};
 use c_grammar::Sign;
 use c_input::{Input, Limits, Read, Refusal};
@@ -51,7 +52,7 @@ fn operator_of(sign: Sign) -> UnaryOperator
 }
 
 impl<
-    E: Fn(Global, Limits, Wanted, &mut Input<'_>) -> Result<Read<Expr>, Refusal>,
+    E: Fn(Global, Limits, Wanted, &mut Input<'_>) -> Result<Read<Boxed<Expr>>, Refusal>,
     T: Fn(Global, Limits, &mut Input<'_>) -> Result<Read<TypeName>, Refusal>,
 > Expressions<E, T> {
     /// An operand, which begins as the front says.
@@ -61,7 +62,7 @@ impl<
         limits: Limits,
         front: Front,
         input: &mut Input<'_>,
-    ) -> Result<Read<Expr>, Refusal>
+    ) -> Result<Read<Boxed<Expr>>, Refusal>
         requires nested { Nested (2 * (limits.opens + limits.room)) (E.pre self.now.expression) (E.post self.now.expression) (T.pre self.now.type_name) (T.post self.now.type_name) }
         ensures reads { Says (named limits.room (Operand (front_of front) input.old.scope) input.old.tokens) result input.new.tokens }
         ensures kept { IfOk result (λ read. input.new.scope ≡ input.old.scope) }
@@ -74,7 +75,11 @@ impl<
 
     /// An operator and its operand.
     #[tactic(auto, using(crate::proofs::Prefixes::a_prefix, crate::proofs::Prefixes::no_prefix))]
-    pub fn prefix(&self, limits: Limits, input: &mut Input<'_>) -> Result<Read<Expr>, Refusal>
+    pub fn prefix(
+        &self,
+        limits: Limits,
+        input: &mut Input<'_>,
+    ) -> Result<Read<Boxed<Expr>>, Refusal>
         requires nested { Nested (2 * (limits.opens + limits.room)) (E.pre self.now.expression) (E.post self.now.expression) (T.pre self.now.type_name) (T.post self.now.type_name) }
         ensures reads { Says (named limits.room (Prefix input.old.scope) input.old.tokens) result input.new.tokens }
         ensures kept { IfOk result (λ read. input.new.scope ≡ input.old.scope) }
@@ -108,7 +113,7 @@ impl<
         limits: Limits,
         wanted: Wanted,
         input: &mut Input<'_>,
-    ) -> Result<Read<Expr>, Refusal>
+    ) -> Result<Read<Boxed<Expr>>, Refusal>
         requires nested { Nested (2 * (limits.opens + limits.room)) (E.pre self.now.expression) (E.post self.now.expression) (T.pre self.now.type_name) (T.post self.now.type_name) }
         requires room { 0 < limits.room }
         ensures reads { Says (operation (limits.room - 1) wanted input.old.scope (head input.old.tokens) (behind input.old.tokens)) result input.new.tokens }
@@ -133,22 +138,29 @@ impl<
         operator: UnaryOperator,
         wanted: Wanted,
         input: &mut Input<'_>,
-    ) -> Result<Read<Expr>, Refusal>
+    ) -> Result<Read<Boxed<Expr>>, Refusal>
         requires nested { Nested (2 * (limits.opens + limits.room)) (E.pre self.now.expression) (E.post self.now.expression) (T.pre self.now.type_name) (T.post self.now.type_name) }
         requires room { 0 < limits.room }
         ensures reads { Says (unary_node place operator (named_expression (limits.room - 1) wanted input.old.scope input.old.tokens)) result input.new.tokens }
         ensures kept { IfOk result (λ read. input.new.scope ≡ input.old.scope) }
     {
         let operand = self.expression_inside(limits, wanted, input)?;
-        Ok(Read {
-            value: Expr::Unary(place, operator, Boxed::new(self.alloc, operand.value)?),
-            depth: operand.depth + 1,
-        })
+        let depth = operand.depth + 1;
+        Ok(node(
+            self.alloc,
+            Expr::Unary(place, operator, operand.value),
+            depth,
+        )?)
     }
 
     /// What stands behind `sizeof`.
     #[tactic(auto, using(crate::proofs::Prefixes::a_size, c_input::proofs::Steps::within))]
-    fn size(&self, limits: Limits, place: u32, input: &mut Input<'_>) -> Result<Read<Expr>, Refusal>
+    fn size(
+        &self,
+        limits: Limits,
+        place: u32,
+        input: &mut Input<'_>,
+    ) -> Result<Read<Boxed<Expr>>, Refusal>
         requires nested { Nested (2 * (limits.opens + limits.room)) (E.pre self.now.expression) (E.post self.now.expression) (T.pre self.now.type_name) (T.post self.now.type_name) }
         requires room { 0 < limits.room }
         ensures reads { Says (sized (limits.room - 1) input.old.scope place input.old.tokens) result input.new.tokens }
@@ -167,9 +179,7 @@ impl<
             return Err(Refusal::Refused(false));
         }
         let _closed = input.take();
-        Ok(Read {
-            value: Expr::SizeofType(place, name.value),
-            depth: name.depth + 1,
-        })
+        let depth = name.depth + 1;
+        Ok(node(self.alloc, Expr::SizeofType(place, name.value), depth)?)
     }
 }

@@ -18,7 +18,7 @@ use c_input::{Input, Limits, Read, Refusal};
 use c_starts::{Home, begins_bare, begins_expression, begins_specifiers};
 use c_tree::{Expr, Span, TypeName};
 use sqlite_items::{Boxed, Items};
-use std::alloc::Global;
+use std::alloc::{AllocError, Global};
 
 /// Whether a name that is no typedef name stands here.
 #[tactic(auto, using(c_input::proofs::Steps::sees_none, c_input::proofs::Steps::sees_head))]
@@ -62,36 +62,40 @@ fn texts(alloc: Global, input: &mut Input<'_>) -> Result<Items<Span>, Refusal>
     Ok(spans)
 }
 
-/// An expression with no node inside it.
-fn leaf(value: Expr) -> Read<Expr>
-    ensures { result ≡ record { value = value; depth = 1 } }
+/// A node of this depth. A tree is held in a box wherever it may be let go: else each such place lists its variants.
+pub(crate) fn node(alloc: Global, tree: Expr, depth: u32) -> Result<Read<Boxed<Expr>>, AllocError>
+    ensures { IfOk result (λ read. read ≡ record { value = tree; depth = depth }) }
 {
-    Read { value, depth: 1 }
+    Ok(Read {
+        value: Boxed::new(alloc, tree)?,
+        depth,
+    })
 }
 
 /// A primary expression without a parenthesis.
 #[tactic(auto, using(crate::proofs::Primaries::text_read), unfolding(crate::specs::Parts::bare_reads))]
-fn bare(alloc: Global, input: &mut Input<'_>) -> Result<Read<Expr>, Refusal>
+fn bare(alloc: Global, input: &mut Input<'_>) -> Result<Read<Boxed<Expr>>, Refusal>
     ensures reads { Says (one_more (bare_reads input.old.scope input.old.tokens)) result input.new.tokens }
     ensures kept { IfOk result (λ read. input.new.scope ≡ input.old.scope) }
 {
     if is_plain_name(input) {
-        return Ok(leaf(Expr::Name(input.take().span())));
+        return Ok(node(alloc, Expr::Name(input.take().span()), 1)?);
     }
     if input.is(Sign::Number) {
-        return Ok(leaf(Expr::Number(input.take().span())));
+        return Ok(node(alloc, Expr::Number(input.take().span()), 1)?);
     }
     if input.is(Sign::Character) {
-        return Ok(leaf(Expr::Character(input.take().span())));
+        return Ok(node(alloc, Expr::Character(input.take().span()), 1)?);
     }
     if !input.is(Sign::Text) {
         return Err(Refusal::Refused(false));
     }
-    Ok(leaf(Expr::Text(texts(alloc, input)?)))
+    let spans = texts(alloc, input)?;
+    Ok(node(alloc, Expr::Text(spans), 1)?)
 }
 
 impl<
-    E: Fn(Global, Limits, Wanted, &mut Input<'_>) -> Result<Read<Expr>, Refusal>,
+    E: Fn(Global, Limits, Wanted, &mut Input<'_>) -> Result<Read<Boxed<Expr>>, Refusal>,
     T: Fn(Global, Limits, &mut Input<'_>) -> Result<Read<TypeName>, Refusal>,
 > Expressions<E, T> {
     /// The expression in a parenthesis that was opened at this place, up to its end.
@@ -101,7 +105,7 @@ impl<
         limits: Limits,
         place: u32,
         input: &mut Input<'_>,
-    ) -> Result<Read<Expr>, Refusal>
+    ) -> Result<Read<Boxed<Expr>>, Refusal>
         requires nested { Nested (2 * (limits.opens + limits.room)) (E.pre self.now.expression) (E.post self.now.expression) (T.pre self.now.type_name) (T.post self.now.type_name) }
         requires room { 0 < limits.room }
         ensures reads { Says (one_more (reads (named (limits.room - 1)) (inside input.old.scope place) input.old.tokens)) result input.new.tokens }
@@ -112,15 +116,18 @@ impl<
             return Err(Refusal::Refused(false));
         }
         let _closed = input.take();
-        Ok(Read {
-            value: Expr::Parenthesised(place, Boxed::new(self.alloc, inner.value)?),
-            depth: inner.depth + 1,
-        })
+        let depth = inner.depth + 1;
+        Ok(node(self.alloc, Expr::Parenthesised(place, inner.value), depth)?)
     }
 
     /// A cast whose parenthesis was opened at this place.
     #[tactic(auto, using(c_input::proofs::Steps::within))]
-    fn cast(&self, limits: Limits, place: u32, input: &mut Input<'_>) -> Result<Read<Expr>, Refusal>
+    fn cast(
+        &self,
+        limits: Limits,
+        place: u32,
+        input: &mut Input<'_>,
+    ) -> Result<Read<Boxed<Expr>>, Refusal>
         requires nested { Nested (2 * (limits.opens + limits.room)) (E.pre self.now.expression) (E.post self.now.expression) (T.pre self.now.type_name) (T.post self.now.type_name) }
         requires room { 0 < limits.room }
         ensures reads { Says (one_more (reads (named (limits.room - 1)) (cast_rest input.old.scope place) input.old.tokens)) result input.new.tokens }
@@ -132,10 +139,12 @@ impl<
         }
         let _closed = input.take();
         let inner = self.expression_inside(limits, Wanted::Cast, input)?;
-        Ok(Read {
-            value: Expr::Cast(place, name.value, Boxed::new(self.alloc, inner.value)?),
-            depth: name.depth.max(inner.depth) + 1,
-        })
+        let depth = name.depth.max(inner.depth) + 1;
+        Ok(node(
+            self.alloc,
+            Expr::Cast(place, name.value, inner.value),
+            depth,
+        )?)
     }
 
     /// What stands behind a parenthesis that was opened at this place, up to its end: an expression, or a cast.
@@ -144,7 +153,7 @@ impl<
         limits: Limits,
         place: u32,
         input: &mut Input<'_>,
-    ) -> Result<Read<Expr>, Refusal>
+    ) -> Result<Read<Boxed<Expr>>, Refusal>
         requires nested { Nested (2 * (limits.opens + limits.room)) (E.pre self.now.expression) (E.post self.now.expression) (T.pre self.now.type_name) (T.post self.now.type_name) }
         requires room { 0 < limits.room }
         ensures reads { Says (one_more (opened_reads (limits.room - 1) input.old.scope place input.old.tokens)) result input.new.tokens }
@@ -164,7 +173,7 @@ impl<
         limits: Limits,
         front: Front,
         input: &mut Input<'_>,
-    ) -> Result<Read<Expr>, Refusal>
+    ) -> Result<Read<Boxed<Expr>>, Refusal>
         requires nested { Nested (2 * (limits.opens + limits.room)) (E.pre self.now.expression) (E.post self.now.expression) (T.pre self.now.type_name) (T.post self.now.type_name) }
         ensures reads { Says (named limits.room (Primary (front_of front) input.old.scope) input.old.tokens) result input.new.tokens }
         ensures kept { IfOk result (λ read. input.new.scope ≡ input.old.scope) }

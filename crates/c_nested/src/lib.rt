@@ -17,7 +17,7 @@ use c_expressions::{Expressions, Wanted};
 use c_input::{Input, Limits, Read, Refusal};
 use c_starts::Home;
 use c_tree::{Expr, Member, TypeName};
-use sqlite_items::Items;
+use sqlite_items::{Boxed, Items};
 use std::alloc::Global;
 
 /// An expression.
@@ -27,7 +27,7 @@ pub fn expression(
     limits: Limits,
     wanted: Wanted,
     input: &mut Input<'_>,
-) -> Result<Read<Expr>, Refusal>
+) -> Result<Read<Boxed<Expr>>, Refusal>
     ensures reads { Says (named_expression limits.room wanted input.old.scope input.old.tokens) result input.new.tokens }
     ensures kept { IfOk result (λ read. input.new.scope ≡ input.old.scope) }
 {
@@ -40,7 +40,11 @@ pub fn expression(
 }
 
 #[cycle(nested)]
-fn conditional(alloc: Global, limits: Limits, input: &mut Input<'_>) -> Result<Read<Expr>, Refusal>
+fn conditional(
+    alloc: Global,
+    limits: Limits,
+    input: &mut Input<'_>,
+) -> Result<Read<Boxed<Expr>>, Refusal>
     ensures reads { Says (named limits.room (Conditional input.old.scope) input.old.tokens) result input.new.tokens }
     ensures kept { IfOk result (λ read. input.new.scope ≡ input.old.scope) }
 {

@@ -34,13 +34,13 @@ fn goes_on(is_open: bool, input: &Input<'_>) -> bool
 fn if_alone(
     alloc: Global,
     place: u32,
-    test: Expr,
+    test: Boxed<Expr>,
     body: Boxed<Stmt>,
 ) -> Result<Statement, AllocError>
     ensures { IfOk result (λ statement. statement ≡ record { tree = Stmt.If place test body None; is_open = true }) }
 {
     Ok(Statement {
-        tree: Boxed::new(alloc, Stmt::If(place, test, body, None))?,
+        tree: Boxed::new(alloc, Stmt::If(place, test.into_inner(), body, None))?,
         is_open: true,
     })
 }
@@ -49,7 +49,7 @@ fn if_alone(
 fn if_else(
     alloc: Global,
     place: u32,
-    test: Expr,
+    test: Boxed<Expr>,
     body: Boxed<Stmt>,
     other: Statement,
 ) -> Result<Statement, AllocError>
@@ -57,7 +57,10 @@ fn if_else(
 {
     let is_open = other.is_open;
     Ok(Statement {
-        tree: Boxed::new(alloc, Stmt::If(place, test, body, Some(other.tree)))?,
+        tree: Boxed::new(
+            alloc,
+            Stmt::If(place, test.into_inner(), body, Some(other.tree)),
+        )?,
         is_open,
     })
 }
@@ -66,14 +69,14 @@ fn if_else(
 fn while_tree(
     alloc: Global,
     place: u32,
-    test: Expr,
+    test: Boxed<Expr>,
     body: Statement,
 ) -> Result<Statement, AllocError>
     ensures { IfOk result (λ statement. statement ≡ record { tree = Stmt.While place test body.tree; is_open = body.is_open }) }
 {
     let is_open = body.is_open;
     Ok(Statement {
-        tree: Boxed::new(alloc, Stmt::While(place, test, body.tree))?,
+        tree: Boxed::new(alloc, Stmt::While(place, test.into_inner(), body.tree))?,
         is_open,
     })
 }
@@ -88,7 +91,7 @@ impl<S: Fn(Global, Limits, bool, &mut Input<'_>) -> Result<Read<Statement>, Refu
         limits: Limits,
         in_loop: bool,
         place: u32,
-        test: Expr,
+        test: Boxed<Expr>,
         body: Statement,
         input: &mut Input<'_>,
     ) -> Result<Read<Statement>, Refusal>
@@ -119,7 +122,7 @@ impl<S: Fn(Global, Limits, bool, &mut Input<'_>) -> Result<Read<Statement>, Refu
         limits: Limits,
         in_loop: bool,
         place: u32,
-        test: Expr,
+        test: Boxed<Expr>,
         input: &mut Input<'_>,
     ) -> Result<Read<Statement>, Refusal>
         requires nested { ReadsStatements limits.room (S.pre self.now.statement) (S.post self.now.statement) }
@@ -202,7 +205,10 @@ impl<S: Fn(Global, Limits, bool, &mut Input<'_>) -> Result<Read<Statement>, Refu
         let _end = input.take();
         let depth = test.depth;
         Ok(Read {
-            value: whole(self.alloc, Stmt::DoWhile(place, body, test.value))?,
+            value: whole(
+                self.alloc,
+                Stmt::DoWhile(place, body, test.value.into_inner()),
+            )?,
             depth,
         })
     }

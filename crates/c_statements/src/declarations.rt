@@ -17,7 +17,7 @@ use c_input::{Input, Limits, Read, Refusal, deeper};
 use c_nested::{declarator, specifiers};
 use c_starts::{Home, begins_specifiers, specs_place};
 use c_tree::{Decl, Declarator, InitDeclarator};
-use sqlite_items::Items;
+use sqlite_items::{Boxed, Items};
 use std::alloc::Global;
 
 /// Declares the name of a declarator.
@@ -48,7 +48,7 @@ pub fn declare<'a>(
 pub fn with_value(
     alloc: Global,
     limits: Limits,
-    tree: Declarator,
+    tree: Boxed<Declarator>,
     input: &mut Input<'_>,
 ) -> Result<Read<InitDeclarator>, Refusal>
     ensures reads { Says (reads (named limits.room) (with_value input.old.scope tree) input.old.tokens) result input.new.tokens }
@@ -57,7 +57,7 @@ pub fn with_value(
     if !input.is(Sign::Equal) {
         return Ok(Read {
             value: InitDeclarator {
-                declarator: tree,
+                declarator: tree.into_inner(),
                 init: None,
             },
             depth: 0,
@@ -67,7 +67,7 @@ pub fn with_value(
     let value = initializer(alloc, limits, input)?;
     Ok(Read {
         value: InitDeclarator {
-            declarator: tree,
+            declarator: tree.into_inner(),
             init: Some(value.value),
         },
         depth: value.depth,

@@ -21,7 +21,7 @@ use c_input::{Input, Limits, Read, Refusal, deeper};
 use c_nested::{declarator, specifiers};
 use c_starts::{Home, begins_specifiers, specs_place};
 use c_tree::{Decl, Declarator, External, FunctionDefinition, InitDeclarator, Spec, Tree};
-use sqlite_items::Items;
+use sqlite_items::{Boxed, Items};
 use std::alloc::Global;
 
 /// None of the names is a typedef name from here on.
@@ -62,7 +62,7 @@ fn declarators_from(
     alloc: Global,
     limits: Limits,
     typedefs: bool,
-    tree: Declarator,
+    tree: Boxed<Declarator>,
     input: &mut Input<'_>,
 ) -> Result<Read<Items<InitDeclarator>>, Refusal>
     ensures reads { Leaves declarators_read (reads (named limits.room) (declarators_from input.old.scope typedefs tree) input.old.tokens) result input.new }
@@ -79,13 +79,13 @@ fn declarators_from(
 }
 
 /// The definition of a function.
-fn definition(specs: Items<Spec>, tree: Declarator, body: Block) -> External
+fn definition(specs: Items<Spec>, tree: Boxed<Declarator>, body: Block) -> External
     ensures { result ≡ External.Function (record { place = specs_place specs; specs = specs; declarator = tree; body_place = body.place; body = body.items }) }
 {
     External::Function(FunctionDefinition {
         place: specs_place(specs.as_slice()),
         specs,
-        declarator: tree,
+        declarator: tree.into_inner(),
         body_place: body.place,
         body: body.items,
     })

@@ -12,7 +12,7 @@ ghost use Rattle.c_statements.specs.Scoped.{Leaves, Extends};
 
 use crate::declarations::declaration;
 use crate::parser::Statements;
-use crate::parts::expression_until;
+use crate::parts::{expression_until, unboxed};
 use crate::values::Statement;
 use c_grammar::Sign;
 use c_input::{Input, Limits, Read, Refusal, deeper};
@@ -40,7 +40,7 @@ fn for_start(
     }
     let first = expression_until(alloc, limits, Sign::Semicolon, input)?;
     Ok(Read {
-        value: ForStart::Expression(first.value),
+        value: ForStart::Expression(unboxed(first.value)),
         depth: first.depth,
     })
 }
@@ -50,15 +50,18 @@ fn for_tree(
     alloc: Global,
     place: u32,
     first: ForStart,
-    test: Option<Expr>,
-    next: Option<Expr>,
+    test: Option<Boxed<Expr>>,
+    next: Option<Boxed<Expr>>,
     body: Statement,
 ) -> Result<Statement, AllocError>
     ensures { IfOk result (λ statement. statement ≡ record { tree = Stmt.For place first test next body.tree; is_open = body.is_open }) }
 {
     let is_open = body.is_open;
     Ok(Statement {
-        tree: Boxed::new(alloc, Stmt::For(place, first, test, next, body.tree))?,
+        tree: Boxed::new(
+            alloc,
+            Stmt::For(place, first, unboxed(test), unboxed(next), body.tree),
+        )?,
         is_open,
     })
 }
@@ -73,7 +76,7 @@ impl<S: Fn(Global, Limits, bool, &mut Input<'_>) -> Result<Read<Statement>, Refu
         limits: Limits,
         place: u32,
         first: ForStart,
-        test: Option<Expr>,
+        test: Option<Boxed<Expr>>,
         input: &mut Input<'_>,
     ) -> Result<Read<Statement>, Refusal>
         requires nested { ReadsStatements limits.room (S.pre self.now.statement) (S.post self.now.statement) }

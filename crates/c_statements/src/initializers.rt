@@ -102,7 +102,7 @@ impl<I: Fn(Global, Limits, &mut Input<'_>) -> Result<Read<Init>, Refusal>> Initi
         }
         let value = expression(self.alloc, limits, Wanted::Assignment, input)?;
         Ok(Read {
-            value: Init::Value(value.value),
+            value: Init::Value(value.value.into_inner()),
             depth: value.depth,
         })
     }

@@ -9,7 +9,7 @@ ghost use Rattle.c_input.specs.Input.{sees, after_token};
 ghost use Rattle.c_input.specs.Reads.{named, reads, Says};
 ghost use Rattle.c_statements.specs.Forms.{return_form, expression_form};
 
-use crate::parts::{expression_until, maybe_expression};
+use crate::parts::{expression_until, maybe_expression, unboxed};
 use crate::values::Statement;
 use c_grammar::Sign;
 use c_input::{Input, Limits, Read, Refusal, Seen};
@@ -54,18 +54,18 @@ pub fn return_statement(
     let first = input.take();
     let result = expression_until(alloc, limits.inside(), Sign::Semicolon, input)?;
     Ok(Read {
-        value: whole(alloc, Stmt::Return(first.place(), result.value))?,
+        value: whole(alloc, Stmt::Return(first.place(), unboxed(result.value)))?,
         depth: result.depth + 1,
     })
 }
 
 /// The place of an expression statement.
-fn statement_place(expression: &Option<Expr>, end: &Seen<'_>) -> u32
+fn statement_place(expression: &Option<Boxed<Expr>>, end: &Seen<'_>) -> u32
     ensures { result ≡ statement_place expression.now end.now }
 {
     match expression {
         None => end.place(),
-        Some(expression) => place_of(expression),
+        Some(expression) => place_of(expression.get()),
     }
 }
 
@@ -89,7 +89,7 @@ pub fn expression_statement(
     let expression = read.value;
     let place = statement_place(&expression, &end);
     Ok(Read {
-        value: whole(alloc, Stmt::Expression(place, expression))?,
+        value: whole(alloc, Stmt::Expression(place, unboxed(expression)))?,
         depth: depth + 1,
     })
 }

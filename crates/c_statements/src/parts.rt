@@ -11,6 +11,7 @@ use c_input::{Input, Limits, Read, Refusal};
 use c_nested::expression;
 use c_starts::begins_expression;
 use c_tree::Expr;
+use sqlite_items::Boxed;
 use std::alloc::Global;
 
 /// An expression, or none.
@@ -19,7 +20,7 @@ pub fn maybe_expression(
     alloc: Global,
     limits: Limits,
     input: &mut Input<'_>,
-) -> Result<Read<Option<Expr>>, Refusal>
+) -> Result<Read<Option<Boxed<Expr>>>, Refusal>
     ensures reads { Says (named limits.room (MaybeExpression input.old.scope) input.old.tokens) result input.new.tokens }
     ensures kept { IfOk result (λ read. input.new.scope ≡ input.old.scope) }
 {
@@ -43,7 +44,7 @@ pub fn expression_until(
     limits: Limits,
     sign: Sign,
     input: &mut Input<'_>,
-) -> Result<Read<Option<Expr>>, Refusal>
+) -> Result<Read<Option<Boxed<Expr>>>, Refusal>
     ensures reads { Says (reads (named limits.room) (expression_until sign input.old.scope) input.old.tokens) result input.new.tokens }
     ensures kept { IfOk result (λ read. input.new.scope ≡ input.old.scope) }
 {
@@ -61,7 +62,7 @@ pub fn condition(
     alloc: Global,
     limits: Limits,
     input: &mut Input<'_>,
-) -> Result<Read<Expr>, Refusal>
+) -> Result<Read<Boxed<Expr>>, Refusal>
     ensures reads { Says (reads (named limits.room) (condition input.old.scope) input.old.tokens) result input.new.tokens }
     ensures kept { IfOk result (λ read. input.new.scope ≡ input.old.scope) }
 {
@@ -75,4 +76,14 @@ pub fn condition(
     }
     let _closed = input.take();
     Ok(test)
+}
+
+/// The expression out of its box, where there is one.
+pub fn unboxed(expression: Option<Boxed<Expr>>) -> Option<Expr>
+    ensures { result ≡ expression }
+{
+    match expression {
+        None => None,
+        Some(expression) => Some(expression.into_inner()),
+    }
 }
