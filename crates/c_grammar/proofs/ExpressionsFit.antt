@@ -2,21 +2,26 @@
 use Rattle.std.proofs.Common.{Bool, true, false, not, ◌&&◌, ◌||◌, List, refl}
 use Rattle.grammar.proofs.Checked.{within, apart}
 use Rattle.c_grammar.specs.Expressions.{has_type}
-use Rattle.c_grammar.specs.Rules.{Declared, Scope, Front, CastFront, UnaryFront, BareFront, OpenedFront, Level, OrOr, TypeHome, Expression, Assignment, Conditional, Prefix, Arguments, MoreArguments, Binary, Operand, Postfix, Primary, Texts}
+use Rattle.c_grammar.specs.declared.state.Front.{Front}
+use Rattle.c_grammar.specs.declared.state.Precedence.{Precedence}
+use Rattle.c_grammar.specs.declared.state.Front.TheVariants.{Cast as CastFront, Unary as UnaryFront, Bare as BareFront, Opened as OpenedFront}
+use Rattle.c_grammar.specs.declared.state.Precedence.TheVariants.{LogicalOr}
+use Rattle.c_grammar.specs.declared.state.SpecifierContext.TheVariants.{«Type» as TypeContext}
+use Rattle.c_grammar.specs.Rules.{Declared, Scope, Expression, Assignment, Conditional, Prefix, Arguments, MoreArguments, Binary, Operand, Postfix, Primary, Texts}
 use Rattle.c_grammar.proofs.Every.{All, rows, names_differ}
-use Rattle.c_grammar.specs.declared.Sign.TheVariants as k
+use Rattle.c_grammar.specs.declared.terminal.Terminal.TheVariants as k
 use Rattle.c_grammar.specs.Lexemes.{is}
 use Rattle.c_grammar.specs.Trees.{is_cast}
 use Rattle.c_grammar.specs.Specifiers.{no_specs}
-use Rattle.c_grammar.specs.Grammar.{starts_specs, starts_expression, ends_operand, ends_primary}
+use Rattle.c_grammar.specs.Lookahead.{starts_specs, starts_expression, ends_operand, ends_primary}
 use Rattle.c_grammar.proofs.Fine.{Fine, begins_not}
 
 -- a type name and an expression begin apart: by the words of functions and by the typedef names
 pub types_first : (block : Bool) (types : List Declared)
-    → All (λ t. apart (starts_specs TypeHome (record { types = types; block = block }) no_specs t || false)
+    → All (λ t. apart (starts_specs TypeContext (record { types = types; block = block }) no_specs t || false)
     (starts_expression (record { types = types; block = block }) t || false))
-types_first true types = λ x p. names_differ (has_type types (record { sign = k.Name; token = p; text = x }))
-types_first false types = λ x p. names_differ (has_type types (record { sign = k.Name; token = p; text = x }))
+types_first true types = λ x p. names_differ (has_type types (record { terminal = k.Name; token = p; text = x }))
+types_first false types = λ x p. names_differ (has_type types (record { terminal = k.Name; token = p; text = x }))
 
 -- a postfix operator stands behind what is no cast
 step_rows : (cast : Bool) → All (λ t. within
@@ -44,8 +49,8 @@ assignment_fine s = (search rows depth 20, refl, (refl, (λ a e. tt)), (λ a. ((
 pub conditional_fine : (s : Scope) → Fine (Conditional s)
 conditional_fine s = (search rows depth 20, refl, (refl, (λ a e. tt)), (λ a. ((λ x p. refl), (λ x p. refl), tt)), (λ y. refl), (λ y. tt), (λ y. (λ t e. (λ a. ((λ x p. refl), (λ x p. refl), (λ t e. (λ a. ((λ x p. refl), (λ x p. refl), tt))))))), (λ a. (λ x p. refl)))
 
-pub binary_fine : (l : Level) (s : Scope) → Fine (Binary l s)
-binary_fine OrOr s = (search rows depth 20, refl, (refl, (λ a e. tt)), (λ a. ((λ x p. refl), (λ x p. refl), tt)), (λ y. refl), (λ y. tt), (λ y. (λ t e. (λ a. ((λ x p. refl), (λ x p. refl), tt)))), (λ a. (λ x p. refl)))
+pub binary_fine : (l : Precedence) (s : Scope) → Fine (Binary l s)
+binary_fine LogicalOr s = (search rows depth 20, refl, (refl, (λ a e. tt)), (λ a. ((λ x p. refl), (λ x p. refl), tt)), (λ y. refl), (λ y. tt), (λ y. (λ t e. (λ a. ((λ x p. refl), (λ x p. refl), tt)))), (λ a. (λ x p. refl)))
 binary_fine _ s = (search rows depth 20, refl, (refl, (λ a e. tt)), (λ a. ((λ x p. refl), (λ x p. refl), tt)), (λ y. refl), (λ y. tt), (λ y. (λ t e. (λ a. ((λ x p. refl), (λ x p. refl), tt)))), (λ a. (λ x p. refl)))
 
 pub prefix_fine : (s : Scope) → Fine (Prefix s)

@@ -1,9 +1,13 @@
 -- One token decides in the whole grammar.
 use Rattle.std.proofs.Common.{◌<◌, lit<}
-use Rattle.grammar.specs.Fits.{IsFit}
+use Rattle.grammar.specs.LL1.{IsLL1}
 use Rattle.grammar.proofs.Checked.{fits}
-use Rattle.c_grammar.specs.Rules.{CastFront, OpenedFront, Rule, Expression, Assignment, Conditional, Prefix, Arguments, MoreArguments, Binary, Operand, Postfix, Primary, Texts, Specs, Members, MemberDeclarators, Enumerators, TypeName, ClangWords, GnuWords, Effect, Attributes, Declarator, Direct, Pointer, Group, Qualifiers, Params, ParamList, Initializer, Braces, Initializers, InitDeclarators, MoreDeclarators, Declaration, MaybeExpression, Statement, Block, BlockItems, External, Externals, Unit, Level, OrOr}
-use Rattle.c_grammar.specs.Grammar.{c_grammar, c_hints, production, rank_of_rule, level_rank}
+use Rattle.c_grammar.specs.declared.state.Precedence.{Precedence}
+use Rattle.c_grammar.specs.declared.state.Front.TheVariants.{Cast as CastFront, Opened as OpenedFront}
+use Rattle.c_grammar.specs.declared.state.Precedence.TheVariants.{LogicalOr}
+use Rattle.c_grammar.specs.Rules.{Rule, Expression, Assignment, Conditional, Prefix, Arguments, MoreArguments, Binary, Operand, Postfix, Primary, Texts, Specs, Members, MemberDeclarators, Enumerators, TypeName, ClangWords, GnuWords, Effect, Attributes, Declarator, Direct, Pointer, Group, Qualifiers, Params, ParamList, Initializer, Braces, Initializers, InitDeclarators, MoreDeclarators, Declaration, MaybeExpression, Statement, Block, BlockItems, External, Externals, Unit}
+use Rattle.c_grammar.specs.Grammar.{c_grammar, production}
+use Rattle.c_grammar.specs.Lookahead.{c_lookahead, rank_of_rule, level_rank}
 use Rattle.c_grammar.proofs.Every.{All, all}
 use Rattle.c_grammar.proofs.Fine.{Fine}
 use Rattle.c_grammar.proofs.ExpressionsFit.{texts_fine, more_arguments_fine, arguments_fine, expression_fine, assignment_fine, conditional_fine, binary_fine, prefix_fine, operand_fine, postfix_fine, primary_fine}
@@ -23,7 +27,7 @@ fine (Operand f s) = operand_fine f s
 fine (Postfix f s) = postfix_fine f s
 fine (Primary f s) = primary_fine f s
 fine Texts = texts_fine
-fine (Specs home s state) = specs_fine home s state
+fine (Specs context s state) = specs_fine context s state
 fine (Members s) = members_fine s
 fine (MemberDeclarators s) = member_declarators_fine s
 fine (Enumerators s) = enumerators_fine s
@@ -32,13 +36,13 @@ fine ClangWords = clang_words_fine
 fine GnuWords = gnu_words_fine
 fine (Effect spelling) = effect_fine spelling
 fine (Attributes s) = attributes_fine s
-fine (Declarator s naming b) = declarator_fine s naming b
-fine (Direct s naming b) = direct_fine s naming b
-fine (Pointer s naming) = pointer_fine s naming
-fine (Group s naming) = group_fine s naming
+fine (Declarator s kind b) = declarator_fine s kind b
+fine (Direct s kind b) = direct_fine s kind b
+fine (Pointer s kind) = pointer_fine s kind
+fine (Group s kind) = group_fine s kind
 fine Qualifiers = qualifiers_fine
 fine (Params s) = params_fine s
-fine (ParamList home s before) = param_list_fine home s before
+fine (ParamList context s before) = param_list_fine context s before
 fine (Initializer s) = initializer_fine s
 fine (Braces s) = braces_fine s
 fine (Initializers s) = initializers_fine s
@@ -53,8 +57,8 @@ fine (External s) = external_fine s
 fine (Externals s) = externals_fine s
 fine Unit = unit_fine
 
-level_below : (l : Level) → level_rank l < 40
-level_below OrOr = lit< tt
+level_below : (l : Precedence) → level_rank l < 40
+level_below LogicalOr = lit< tt
 level_below _ = lit< tt
 
 below : (n : Rule) → rank_of_rule n < 40
@@ -70,5 +74,5 @@ below (Primary CastFront s) = lit< tt
 below (Primary _ s) = lit< tt
 below _ = lit< tt
 
-pub c_grammar_fits : IsFit c_grammar c_hints
-c_grammar_fits n = (below n, fits c_hints All all n (production n) (fine n))
+pub c_grammar_fits : IsLL1 c_grammar c_lookahead
+c_grammar_fits n = (below n, fits c_lookahead All all n (production n) (fine n))

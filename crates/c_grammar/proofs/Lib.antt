@@ -6,3 +6,10 @@ pub mod DeclaratorsFit
 pub mod SpecifiersFit
 pub mod Fit
 pub mod Tried
+pub mod Measured
+pub mod Measure
+pub mod ExpressionsMeasured
+pub mod SpecifiersMeasured
+pub mod DeclaratorsMeasured
+pub mod StatementsMeasured
+pub mod DepthLaw

@@ -8,7 +8,7 @@
 --     adirect    = "(" abstract ")" | [ adirect ] "[" [ cond ] "]" | [ adirect ] "(" params ")" { attr } .
 --
 -- A declarator and an abstract one are read by one rule, which knows whether a name must, may or can't stand at
--- the inmost (Naming). They are made of the same parts, and all that a parameter may have is one of the two.
+-- the inmost (DeclaratorKind). They are made of the same parts, and all that a parameter may have is one of the two.
 use Rattle.std.specs.Prelude.{ℕ, Bool, true, false, not, ◌&&◌, List, [], ◌∷◌, Option, Some, None}
 use Rattle.grammar.specs.Parts.{Return, Take, Call, Either}
 use Rattle.c_tree.specs.declared.words.AttrSpelling.TheVariants.{Brackets}
@@ -23,11 +23,19 @@ use Rattle.c_tree.specs.declared.expressions.Parameters.{Parameters}
 use Rattle.c_tree.specs.declared.expressions.Parameters.TheVariants as parameters
 use Rattle.c_tree.specs.declared.expressions.Declarator as trees
 use Rattle.c_tree.specs.declared.expressions.Declarator.TheVariants as d
-use Rattle.c_grammar.specs.declared.Sign.{Sign}
-use Rattle.c_grammar.specs.declared.Sign.TheVariants as k
+use Rattle.c_grammar.specs.declared.terminal.Terminal.{Terminal}
+use Rattle.c_grammar.specs.declared.terminal.Terminal.TheVariants as k
 use Rattle.c_grammar.specs.Lexemes.{Lexeme, span, place, is, has_text}
 use Rattle.c_grammar.specs.Trees.{specs_place}
-use Rattle.c_grammar.specs.Rules.{Scope, Home, TypeHome, BarredHome, Naming, Ordinary, Membered, Optional, Nameless, Bracket, Unknown, Passed, Barred, Opened, Reach, Nothing, NameAlone, Called, More, AttributesRead, DeclaratorRead, ParamsRead, Conditional, Specs, ClangWords, Attributes, Declarator, Direct, Pointer, Group, Qualifiers, Params, ParamList}
+use Rattle.c_grammar.specs.declared.state.SpecifierContext.{SpecifierContext}
+use Rattle.c_grammar.specs.declared.state.DeclaratorKind.{DeclaratorKind}
+use Rattle.c_grammar.specs.declared.state.Bracket.{Bracket}
+use Rattle.c_grammar.specs.declared.state.Reach.{Reach}
+use Rattle.c_grammar.specs.declared.state.SpecifierContext.TheVariants.{«Type» as TypeContext, Barred as BarredContext}
+use Rattle.c_grammar.specs.declared.state.DeclaratorKind.TheVariants.{Ordinary as OrdinaryKind, Member as MemberKind, Parameter as ParameterKind, Abstract as AbstractKind}
+use Rattle.c_grammar.specs.declared.state.Bracket.TheVariants.{Unknown, Passed, Barred, Opened}
+use Rattle.c_grammar.specs.declared.state.Reach.TheVariants.{Nothing, NameAlone, Called, More}
+use Rattle.c_grammar.specs.Rules.{Scope, AttributesRead, DeclaratorRead, ParamsRead, Conditional, Specs, ClangWords, Attributes, Declarator, Direct, Pointer, Group, Qualifiers, Params, ParamList}
 use Rattle.c_grammar.specs.Expressions.{Reading, word, dead_end, has_type}
 use Rattle.c_grammar.specs.Specifiers.{no_specs, reserved_names, is_ordinary_name, is_qualifier, attr, after}
 
@@ -92,43 +100,43 @@ closing (Some p) x = dead_end x
 abbrev pub closed : DeclaratorRead → Reading DeclaratorRead
 closed x = closing x.bracket x
 
-abbrev pub declarator : Scope → Naming → Bracket → Reading DeclaratorRead
-declarator s naming (Opened p) = Call (Direct s naming (Opened p)) closed
-declarator s naming b = Either (Call (Pointer s naming) Return) (Call (Direct s naming b) closed)
+abbrev pub declarator : Scope → DeclaratorKind → Bracket → Reading DeclaratorRead
+declarator s kind (Opened p) = Call (Direct s kind (Opened p)) closed
+declarator s kind b = Either (Call (Pointer s kind) Return) (Call (Direct s kind b) closed)
 
-abbrev pub qualifier_of : Lexeme → Sign → PointerQualifier
+abbrev pub qualifier_of : Lexeme → Terminal → PointerQualifier
 qualifier_of t k.Const = record { place = place t; qualifier = qualifier.Const }
 qualifier_of t k.Volatile = record { place = place t; qualifier = qualifier.Volatile }
 qualifier_of t _ = record { place = place t; qualifier = qualifier.Restrict }
 
 abbrev pub qualifiers : Reading (List PointerQualifier)
-qualifiers = Either (Take is_qualifier (λ t. Call Qualifiers (λ more. Return (qualifier_of t t.sign ∷ more)))) (Return [])
+qualifiers = Either (Take is_qualifier (λ t. Call Qualifiers (λ more. Return (qualifier_of t t.terminal ∷ more)))) (Return [])
 
-abbrev pub pointer : Scope → Naming → Reading DeclaratorRead
-pointer s naming =
-    word k.Star (λ t. Call Qualifiers (λ qs. Call (Declarator s naming Unknown) (λ x. Return (pointer_to (place t) qs x))))
+abbrev pub pointer : Scope → DeclaratorKind → Reading DeclaratorRead
+pointer s kind =
+    word k.Star (λ t. Call Qualifiers (λ qs. Call (Declarator s kind Unknown) (λ x. Return (pointer_to (place t) qs x))))
 
 -- an ordinary name that is no typedef name
 abbrev pub is_free_name : Scope → Lexeme → Bool
 is_free_name s t = is k.Name t && (not (has_type s.types t) && not (has_text reserved_names t))
 
 -- what a direct declarator begins with
-abbrev pub direct_start : Scope → Naming → Bracket → Reading DeclaratorRead
-direct_start s naming (Opened p) = Return (absent (Some p))
-direct_start s Ordinary b = Either (Take is_ordinary_name (λ t. Return (named t))) (Call (Group s Ordinary) Return)
-direct_start s Membered b = Either (word k.Name (λ t. Return (named t))) (Call (Group s Membered) Return)
-direct_start s Optional Barred = Either (Take (is_free_name s) (λ t. Return (named t))) (Call (Group s Optional) Return)
-direct_start s Optional b =
-    Either (Take is_ordinary_name (λ t. Return (named t))) (Either (Call (Group s Optional) Return) (Return (absent None)))
-direct_start s Nameless Barred = Call (Group s Nameless) Return
-direct_start s Nameless b = Either (Call (Group s Nameless) Return) (Return (absent None))
+abbrev pub direct_start : Scope → DeclaratorKind → Bracket → Reading DeclaratorRead
+direct_start s kind (Opened p) = Return (absent (Some p))
+direct_start s OrdinaryKind b = Either (Take is_ordinary_name (λ t. Return (named t))) (Call (Group s OrdinaryKind) Return)
+direct_start s MemberKind b = Either (word k.Name (λ t. Return (named t))) (Call (Group s MemberKind) Return)
+direct_start s ParameterKind Barred = Either (Take (is_free_name s) (λ t. Return (named t))) (Call (Group s ParameterKind) Return)
+direct_start s ParameterKind b =
+    Either (Take is_ordinary_name (λ t. Return (named t))) (Either (Call (Group s ParameterKind) Return) (Return (absent None)))
+direct_start s AbstractKind Barred = Call (Group s AbstractKind) Return
+direct_start s AbstractKind b = Either (Call (Group s AbstractKind) Return) (Return (absent None))
 
 -- In a block a parameter list does not make a declared name a function. Where nothing stands before the `(`, the
 -- parameter list is read as a group.
-abbrev pub takes_params : Scope → Naming → Reach → Bool
-takes_params s naming Nothing = false
-takes_params s Ordinary NameAlone = not s.block
-takes_params s naming reach = true
+abbrev pub takes_params : Scope → DeclaratorKind → Reach → Bool
+takes_params s kind Nothing = false
+takes_params s OrdinaryKind NameAlone = not s.block
+takes_params s kind reach = true
 
 -- No array stands at the front where no `[` does. Behind a parameter list the attributes have told of a `[`.
 abbrev pub takes_array : Reach → Bracket → Bool
@@ -142,11 +150,11 @@ array_rest x s p =
     (Call (Conditional s) (λ size. word k.CloseBracket (λ c. Return (array_of x p (Some size)))))
 
 -- One step is one array or one function. Where the `[` was read before, the array goes on behind it.
-abbrev pub direct_step : Scope → Naming → Bracket → Option ℕ → DeclaratorRead → Reading DeclaratorRead
-direct_step s naming b (Some p) x = array_rest x s p
-direct_step s naming b None x =
+abbrev pub direct_step : Scope → DeclaratorKind → Bracket → Option ℕ → DeclaratorRead → Reading DeclaratorRead
+direct_step s kind b (Some p) x = array_rest x s p
+direct_step s kind b None x =
     Either (Take (λ t. is k.OpenBracket t && takes_array x.reach b) (λ t. array_rest x s (place t)))
-    (Take (λ t. is k.OpenParen t && takes_params s naming x.reach)
+    (Take (λ t. is k.OpenParen t && takes_params s kind x.reach)
     (λ t. Call (Params s) (λ given. word k.CloseParen (λ c. Call (Attributes s) (λ attributes. Return (function_of x (place t) given attributes))))))
 
 -- A group is what stands in parentheses at the front of a direct declarator: a declarator, or, where a name may
@@ -160,28 +168,28 @@ no_params = record { params = []; names = [] }
 abbrev pub function_rest : Scope → ℕ → ParamsRead → Reading DeclaratorRead
 function_rest s p given = word k.CloseParen (λ c. Call (Attributes s) (λ attributes. Return (function_of (absent None) p given attributes)))
 
-abbrev pub group_bracket : Scope → Naming → ℕ → ℕ → Reading DeclaratorRead
-group_bracket s naming p b =
+abbrev pub group_bracket : Scope → DeclaratorKind → ℕ → ℕ → Reading DeclaratorRead
+group_bracket s kind p b =
     Either (word k.OpenBracket (λ o. Call ClangWords (λ words.
-    Call (ParamList TypeHome s (spec.Attribute (attr b Brackets words) ∷ [])) (λ given. function_rest s p given))))
-    (Call (Declarator s naming (Opened b)) (λ x. word k.CloseParen (λ c. Return (grouped p x))))
+    Call (ParamList TypeContext s (spec.Attribute (attr b Brackets words) ∷ [])) (λ given. function_rest s p given))))
+    (Call (Declarator s kind (Opened b)) (λ x. word k.CloseParen (λ c. Return (grouped p x))))
 
-abbrev pub open_group : Scope → Naming → ℕ → Reading DeclaratorRead
-open_group s naming p =
-    Either (word k.OpenBracket (λ b. group_bracket s naming p (place b)))
-    (Either (Call (ParamList BarredHome s []) (λ given. function_rest s p given))
+abbrev pub open_group : Scope → DeclaratorKind → ℕ → Reading DeclaratorRead
+open_group s kind p =
+    Either (word k.OpenBracket (λ b. group_bracket s kind p (place b)))
+    (Either (Call (ParamList BarredContext s []) (λ given. function_rest s p given))
     (Either (function_rest s p no_params)
-    (Call (Declarator s naming Barred) (λ x. word k.CloseParen (λ c. Return (grouped p x))))))
+    (Call (Declarator s kind Barred) (λ x. word k.CloseParen (λ c. Return (grouped p x))))))
 
-abbrev pub group : Scope → Naming → Reading DeclaratorRead
-group s Optional = word k.OpenParen (λ t. open_group s Optional (place t))
-group s Nameless = word k.OpenParen (λ t. open_group s Nameless (place t))
-group s naming = word k.OpenParen (λ t. Call (Declarator s naming Unknown) (λ x. word k.CloseParen (λ c. Return (grouped (place t) x))))
+abbrev pub group : Scope → DeclaratorKind → Reading DeclaratorRead
+group s ParameterKind = word k.OpenParen (λ t. open_group s ParameterKind (place t))
+group s AbstractKind = word k.OpenParen (λ t. open_group s AbstractKind (place t))
+group s kind = word k.OpenParen (λ t. Call (Declarator s kind Unknown) (λ x. word k.CloseParen (λ c. Return (grouped (place t) x))))
 
 -- Parameters, of which the specifiers of the first go on behind those that were read before. The name of one hides
 -- a typedef name from the end of its declarator on, as far as the list goes.
 abbrev pub params : Scope → Reading ParamsRead
-params s = Either (Call (ParamList TypeHome s []) Return) (Return no_params)
+params s = Either (Call (ParamList TypeContext s []) Return) (Return no_params)
 
 abbrev pub param : List Spec → DeclaratorRead → Param
 param specs x = record { place = specs_place specs; specs = specs; declarator = x.tree }
@@ -197,8 +205,8 @@ join (first ∷ more) specs = first ∷ join more specs
 abbrev pub add_param : List Spec → DeclaratorRead → ParamsRead → ParamsRead
 add_param specs x more = record { params = param specs x ∷ more.params; names = with_name x.name more.names }
 
-abbrev pub param_list : Home → Scope → List Spec → Reading ParamsRead
-param_list home s before =
-    Call (Specs home s no_specs) (λ x. Call (Declarator s Optional (after x.bracket)) (λ y.
-    Either (word k.Comma (λ c. Call (ParamList TypeHome (hide y.name s) []) (λ more. Return (add_param (join before x.specs) y more))))
+abbrev pub param_list : SpecifierContext → Scope → List Spec → Reading ParamsRead
+param_list context s before =
+    Call (Specs context s no_specs) (λ x. Call (Declarator s ParameterKind (after x.bracket)) (λ y.
+    Either (word k.Comma (λ c. Call (ParamList TypeContext (hide y.name s) []) (λ more. Return (add_param (join before x.specs) y more))))
     (Return (add_param (join before x.specs) y no_params))))

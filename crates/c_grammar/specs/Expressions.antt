@@ -24,19 +24,23 @@ use Rattle.c_tree.specs.declared.expressions.BinaryOperator.{BinaryOperator}
 use Rattle.c_tree.specs.declared.expressions.BinaryOperator.TheVariants as binary
 use Rattle.c_tree.specs.declared.expressions.AssignmentOperator.{AssignmentOperator}
 use Rattle.c_tree.specs.declared.expressions.AssignmentOperator.TheVariants as assignment
-use Rattle.c_grammar.specs.declared.Sign.{Sign}
-use Rattle.c_grammar.specs.declared.Sign.TheVariants as k
+use Rattle.c_grammar.specs.declared.terminal.Terminal.{Terminal}
+use Rattle.c_grammar.specs.declared.terminal.Terminal.TheVariants as k
 use Rattle.c_grammar.specs.Lexemes.{Lexeme, span, place, is, is_among}
 use Rattle.c_grammar.specs.Trees.{place_of, is_cast, is_conditional, is_unary}
-use Rattle.c_grammar.specs.Rules.{Declared, Scope, Front, CastFront, UnaryFront, BareFront, OpenedFront, Level, OrOr, AndAnd, Bar, Caret, Ampersand, Equality, Relation, Shift, Sum, Product, Rule, Expression, Assignment, Conditional, Prefix, Arguments, MoreArguments, TypeName, Binary, Operand, Postfix, Texts, ValueOf}
+use Rattle.c_grammar.specs.declared.state.Front.{Front}
+use Rattle.c_grammar.specs.declared.state.Precedence.{Precedence}
+use Rattle.c_grammar.specs.declared.state.Front.TheVariants.{Cast as CastFront, Unary as UnaryFront, Bare as BareFront, Opened as OpenedFront}
+use Rattle.c_grammar.specs.declared.state.Precedence.TheVariants.{LogicalOr, LogicalAnd, InclusiveOr, ExclusiveOr, BitwiseAnd, Equality, Relational, Shift, Additive, Multiplicative}
+use Rattle.c_grammar.specs.Rules.{Declared, Scope, Rule, Expression, Assignment, Conditional, Prefix, Arguments, MoreArguments, TypeName, Binary, Operand, Postfix, Texts, ValueOf}
 
 -- parts of a rule of this grammar
 abbrev pub Reading : Type 0 → Type 0
 Reading A = Parts Lexeme Rule ValueOf A
 
--- a token of this sign
-abbrev pub word : {A : Type 0} → Sign → (Lexeme → Reading A) → Reading A
-word sign rest = Take (is sign) rest
+-- a token of this terminal
+abbrev pub word : {A : Type 0} → Terminal → (Lexeme → Reading A) → Reading A
+word terminal rest = Take (is terminal) rest
 
 -- no token can stand here
 abbrev pub dead_end : {A : Type 0} → A → Reading A
@@ -60,12 +64,12 @@ comma_step s a = word k.Comma (λ t. Call (Assignment s) (λ b. Return (e.Binary
 
 -- assign: a unary expression before an assignment operator begins as `cond` does, so the operator is asked for
 -- behind a `cond`, and must stand behind a unary one. Nothing goes on behind the assignment, which is not unary.
-abbrev pub assignment_operators : List Sign
+abbrev pub assignment_operators : List Terminal
 assignment_operators =
     k.Equal ∷ k.StarEqual ∷ k.SlashEqual ∷ k.PercentEqual ∷ k.PlusEqual ∷ k.MinusEqual ∷ k.LeftShiftEqual ∷ k.RightShiftEqual ∷ k.AmpersandEqual
     ∷ k.CaretEqual ∷ k.BarEqual ∷ []
 
-abbrev pub assignment_operator : Sign → AssignmentOperator
+abbrev pub assignment_operator : Terminal → AssignmentOperator
 assignment_operator k.StarEqual = assignment.Multiply
 assignment_operator k.SlashEqual = assignment.Divide
 assignment_operator k.PercentEqual = assignment.Remainder
@@ -81,7 +85,7 @@ assignment_operator _ = assignment.Plain
 abbrev pub assignment_step : Scope → Expr → Reading Expr
 assignment_step s a =
     Take (λ t. is_among assignment_operators t && is_unary a)
-    (λ t. Call (Assignment s) (λ b. Return (e.Assignment (place_of a) a (assignment_operator t.sign) (place t) b)))
+    (λ t. Call (Assignment s) (λ b. Return (e.Assignment (place_of a) a (assignment_operator t.terminal) (place t) b)))
 
 -- cond: the `?` behind a whole conditional expression would belong to the `cond` at its end
 abbrev pub conditional_step : Scope → Expr → Reading Expr
@@ -90,19 +94,19 @@ conditional_step s a =
     (λ t. Call (Expression s) (λ b. word k.Colon (λ u. Call (Conditional s) (λ c. Return (e.Conditional (place_of a) a b c)))))
 
 -- the operators of a level
-abbrev pub operators : Level → List Sign
-operators OrOr = k.OrOr ∷ []
-operators AndAnd = k.AndAnd ∷ []
-operators Bar = k.Bar ∷ []
-operators Caret = k.Caret ∷ []
-operators Ampersand = k.Ampersand ∷ []
+abbrev pub operators : Precedence → List Terminal
+operators LogicalOr = k.OrOr ∷ []
+operators LogicalAnd = k.AndAnd ∷ []
+operators InclusiveOr = k.Bar ∷ []
+operators ExclusiveOr = k.Caret ∷ []
+operators BitwiseAnd = k.Ampersand ∷ []
 operators Equality = k.EqualEqual ∷ k.NotEqual ∷ []
-operators Relation = k.Less ∷ k.Greater ∷ k.LessOrEqual ∷ k.GreaterOrEqual ∷ []
+operators Relational = k.Less ∷ k.Greater ∷ k.LessOrEqual ∷ k.GreaterOrEqual ∷ []
 operators Shift = k.LeftShift ∷ k.RightShift ∷ []
-operators Sum = k.Plus ∷ k.Minus ∷ []
-operators Product = k.Star ∷ k.Slash ∷ k.Percent ∷ []
+operators Additive = k.Plus ∷ k.Minus ∷ []
+operators Multiplicative = k.Star ∷ k.Slash ∷ k.Percent ∷ []
 
-abbrev pub binary_operator : Sign → BinaryOperator
+abbrev pub binary_operator : Terminal → BinaryOperator
 binary_operator k.OrOr = binary.LogicalOr
 binary_operator k.AndAnd = binary.LogicalAnd
 binary_operator k.Bar = binary.Or
@@ -123,21 +127,21 @@ binary_operator k.Slash = binary.Divide
 binary_operator _ = binary.Remainder
 
 -- what the operators of a level stand between: the next tighter level, and casts at the tightest
-abbrev pub tighter : Level → Scope → (Expr → Reading Expr) → Reading Expr
-tighter OrOr s = Call (Binary AndAnd s)
-tighter AndAnd s = Call (Binary Bar s)
-tighter Bar s = Call (Binary Caret s)
-tighter Caret s = Call (Binary Ampersand s)
-tighter Ampersand s = Call (Binary Equality s)
-tighter Equality s = Call (Binary Relation s)
-tighter Relation s = Call (Binary Shift s)
-tighter Shift s = Call (Binary Sum s)
-tighter Sum s = Call (Binary Product s)
-tighter Product s = Call (Operand CastFront s)
+abbrev pub tighter : Precedence → Scope → (Expr → Reading Expr) → Reading Expr
+tighter LogicalOr s = Call (Binary LogicalAnd s)
+tighter LogicalAnd s = Call (Binary InclusiveOr s)
+tighter InclusiveOr s = Call (Binary ExclusiveOr s)
+tighter ExclusiveOr s = Call (Binary BitwiseAnd s)
+tighter BitwiseAnd s = Call (Binary Equality s)
+tighter Equality s = Call (Binary Relational s)
+tighter Relational s = Call (Binary Shift s)
+tighter Shift s = Call (Binary Additive s)
+tighter Additive s = Call (Binary Multiplicative s)
+tighter Multiplicative s = Call (Operand CastFront s)
 
-abbrev pub binary_step : Level → Scope → Expr → Reading Expr
+abbrev pub binary_step : Precedence → Scope → Expr → Reading Expr
 binary_step l s a =
-    Take (is_among (operators l)) (λ t. tighter l s (λ b. Return (e.Binary (place_of a) a (binary_operator t.sign) (place t) b)))
+    Take (is_among (operators l)) (λ t. tighter l s (λ b. Return (e.Binary (place_of a) a (binary_operator t.terminal) (place t) b)))
 
 -- cast and unary: an operator before its operand, or a postfix expression. A cast begins as a primary in
 -- parentheses does, and both are one node from the `(` on, so `Primary CastFront` reads either of them; nothing
@@ -146,10 +150,10 @@ abbrev pub operand : Front → Scope → Reading Expr
 operand (OpenedFront p) s = Call (Postfix (OpenedFront p) s) Return
 operand f s = Either (Call (Prefix s) Return) (Call (Postfix f s) Return)
 
-abbrev pub cast_operators : List Sign
+abbrev pub cast_operators : List Terminal
 cast_operators = k.Ampersand ∷ k.Star ∷ k.Plus ∷ k.Minus ∷ k.Tilde ∷ k.Exclamation ∷ []
 
-abbrev pub unary_operator : Sign → UnaryOperator
+abbrev pub unary_operator : Terminal → UnaryOperator
 unary_operator k.Increment = unary.Increment
 unary_operator k.Decrement = unary.Decrement
 unary_operator k.Ampersand = unary.Address
@@ -172,14 +176,14 @@ sizeof_parts s p =
 abbrev pub prefix : Scope → Reading Expr
 prefix s =
     Either (Take (is_among (k.Increment ∷ k.Decrement ∷ []))
-    (λ t. Call (Operand UnaryFront s) (λ a. Return (e.Unary (place t) (unary_operator t.sign) a))))
+    (λ t. Call (Operand UnaryFront s) (λ a. Return (e.Unary (place t) (unary_operator t.terminal) a))))
     (Either (Take (is_among cast_operators)
-    (λ t. Call (Operand CastFront s) (λ a. Return (e.Unary (place t) (unary_operator t.sign) a))))
+    (λ t. Call (Operand CastFront s) (λ a. Return (e.Unary (place t) (unary_operator t.terminal) a))))
     (word k.Sizeof (λ t. sizeof_parts s (place t))))
 
 -- postfix: each step stands behind what is no cast
-abbrev pub behind : {A : Type 0} → Expr → Sign → (Lexeme → Reading A) → Reading A
-behind a sign rest = Take (λ t. is sign t && not (is_cast a)) rest
+abbrev pub behind : {A : Type 0} → Expr → Terminal → (Lexeme → Reading A) → Reading A
+behind a terminal rest = Take (λ t. is terminal t && not (is_cast a)) rest
 
 abbrev pub postfix_step : Scope → Expr → Reading Expr
 postfix_step s a =

@@ -7,29 +7,29 @@ use Rattle.c_text.specs.declared.Token.{Token}
 use Rattle.c_text.specs.declared.TokenKind.{TokenKind}
 use Rattle.c_text.specs.declared.TokenKind.TheVariants as kinds
 use Rattle.c_tree.specs.declared.words.Span.{Span}
-use Rattle.c_grammar.specs.declared.Sign.{Sign}
-use Rattle.c_grammar.specs.declared.Sign.TheVariants.{Name, Number, Character, Text, Unused, Typedef, Static, Extern, ThreadLocal, Inline, NoReturn, Const, Volatile, Restrict, Void, Char, Int, Signed, Unsigned, Struct, Enum, Attribute, If, Else, While, Do, For, Break, Continue, Return, Sizeof, OpenBracket, CloseBracket, OpenParen, CloseParen, OpenBrace, CloseBrace, Dot, Arrow, Increment, Decrement, Ampersand, Star, Plus, Minus, Tilde, Exclamation, Slash, Percent, LeftShift, RightShift, Less, Greater, LessOrEqual, GreaterOrEqual, EqualEqual, NotEqual, Caret, Bar, AndAnd, OrOr, Question, Colon, Semicolon, Equal, StarEqual, SlashEqual, PercentEqual, PlusEqual, MinusEqual, LeftShiftEqual, RightShiftEqual, AmpersandEqual, CaretEqual, BarEqual, Comma}
+use Rattle.c_grammar.specs.declared.terminal.Terminal.{Terminal}
+use Rattle.c_grammar.specs.declared.terminal.Terminal.TheVariants.{Name, Number, Character, Text, Unused, Typedef, Static, Extern, ThreadLocal, Inline, NoReturn, Const, Volatile, Restrict, Void, Char, Int, Signed, Unsigned, Struct, Enum, Attribute, If, Else, While, Do, For, Break, Continue, Return, Sizeof, OpenBracket, CloseBracket, OpenParen, CloseParen, OpenBrace, CloseBrace, Dot, Arrow, Increment, Decrement, Ampersand, Star, Plus, Minus, Tilde, Exclamation, Slash, Percent, LeftShift, RightShift, Less, Greater, LessOrEqual, GreaterOrEqual, EqualEqual, NotEqual, Caret, Bar, AndAnd, OrOr, Question, Colon, Semicolon, Equal, StarEqual, SlashEqual, PercentEqual, PlusEqual, MinusEqual, LeftShiftEqual, RightShiftEqual, AmpersandEqual, CaretEqual, BarEqual, Comma}
 
 -- a token with what it is and its text
 pub record Lexeme : Type 0 where
-  pub sign : Sign
+  pub terminal : Terminal
   pub token : Token
   pub text : List ℕ
 
--- The sign of a word by a table; a word that stands in none is unused by the grammar.
+-- The terminal of a word by a table; a word that stands in none is unused by the grammar.
 pub record Spelled : Type 0 where
   pub word : List ℕ
-  pub sign : Sign
+  pub terminal : Terminal
 
-abbrev pub spelled : List ℕ → Sign → Spelled
-spelled word sign = record { word = word; sign = sign }
+abbrev pub spelled : List ℕ → Terminal → Spelled
+spelled word terminal = record { word = word; terminal = terminal }
 
-abbrev pub sign_in : List Spelled → List ℕ → Sign
-sign_in [] text = Unused
-sign_in (entry ∷ more) text = if bytes_eq entry.word text then entry.sign else sign_in more text
+abbrev pub terminal_in : List Spelled → List ℕ → Terminal
+terminal_in [] text = Unused
+terminal_in (entry ∷ more) text = if bytes_eq entry.word text then entry.terminal else terminal_in more text
 
-unfoldable pub keyword_signs : List Spelled
-keyword_signs =
+unfoldable pub keyword_terminals : List Spelled
+keyword_terminals =
     spelled (codes "typedef") Typedef ∷ spelled (codes "static") Static ∷ spelled (codes "extern") Extern
     ∷ spelled (codes "_Thread_local") ThreadLocal ∷ spelled (codes "inline") Inline ∷ spelled (codes "_Noreturn") NoReturn
     ∷ spelled (codes "const") Const ∷ spelled (codes "volatile") Volatile ∷ spelled (codes "restrict") Restrict
@@ -39,8 +39,8 @@ keyword_signs =
     ∷ spelled (codes "do") Do ∷ spelled (codes "for") For ∷ spelled (codes "break") Break ∷ spelled (codes "continue") Continue
     ∷ spelled (codes "return") Return ∷ spelled (codes "sizeof") Sizeof ∷ []
 
-unfoldable pub punctuator_signs : List Spelled
-punctuator_signs =
+unfoldable pub punctuator_terminals : List Spelled
+punctuator_terminals =
     spelled (codes "[") OpenBracket ∷ spelled (codes "]") CloseBracket ∷ spelled (codes "(") OpenParen ∷ spelled (codes ")") CloseParen
     ∷ spelled (codes "{") OpenBrace ∷ spelled (codes "}") CloseBrace ∷ spelled (codes ".") Dot ∷ spelled (codes "->") Arrow
     ∷ spelled (codes "++") Increment ∷ spelled (codes "--") Decrement ∷ spelled (codes "&") Ampersand ∷ spelled (codes "*") Star
@@ -54,17 +54,17 @@ punctuator_signs =
     ∷ spelled (codes "<<=") LeftShiftEqual ∷ spelled (codes ">>=") RightShiftEqual ∷ spelled (codes "&=") AmpersandEqual
     ∷ spelled (codes "^=") CaretEqual ∷ spelled (codes "|=") BarEqual ∷ spelled (codes ",") Comma ∷ []
 
-abbrev pub sign_of : TokenKind → List ℕ → Sign
-sign_of kinds.Name text = Name
-sign_of kinds.Number text = Number
-sign_of kinds.Character text = Character
-sign_of kinds.Text text = Text
-sign_of kinds.Keyword text = sign_in keyword_signs text
-sign_of kinds.Punctuator text = sign_in punctuator_signs text
+abbrev pub terminal_of : TokenKind → List ℕ → Terminal
+terminal_of kinds.Name text = Name
+terminal_of kinds.Number text = Number
+terminal_of kinds.Character text = Character
+terminal_of kinds.Text text = Text
+terminal_of kinds.Keyword text = terminal_in keyword_terminals text
+terminal_of kinds.Punctuator text = terminal_in punctuator_terminals text
 
 -- the tokens of a source
 abbrev pub lexeme_of : List ℕ → Token → Lexeme
-lexeme_of source token = record { sign = sign_of token.kind (text_of source token); token = token; text = text_of source token }
+lexeme_of source token = record { terminal = terminal_of token.kind (text_of source token); token = token; text = text_of source token }
 
 abbrev pub lexemes_of : List ℕ → List Token → List Lexeme
 lexemes_of source tokens = map (λ token. lexeme_of source token) tokens
@@ -76,8 +76,8 @@ span t = record { start = t.token.start; end = t.token.end }
 abbrev pub place : Lexeme → ℕ
 place t = t.token.start
 
--- signs by their numbers, so that they can be compared
-abbrev pub number : Sign → ℕ
+-- terminals by their numbers, so that they can be compared
+abbrev pub number : Terminal → ℕ
 number Number = 0
 number Character = 1
 number Text = 2
@@ -156,8 +156,8 @@ number Comma = 74
 number Name = 75
 
 -- all of them; names stand last
-abbrev pub signs : List Sign
-signs =
+abbrev pub terminals : List Terminal
+terminals =
     Number ∷ Character ∷ Text ∷ Unused ∷ Typedef ∷ Static ∷ Extern ∷ ThreadLocal ∷ Inline ∷ NoReturn ∷ Const ∷ Volatile ∷ Restrict ∷ Void ∷ Char ∷
     Int ∷ Signed ∷ Unsigned ∷ Struct ∷ Enum ∷ Attribute ∷ If ∷ Else ∷ While ∷ Do ∷ For ∷ Break ∷ Continue ∷ Return ∷ Sizeof ∷ OpenBracket ∷
     CloseBracket ∷ OpenParen ∷ CloseParen ∷ OpenBrace ∷ CloseBrace ∷ Dot ∷ Arrow ∷ Increment ∷ Decrement ∷ Ampersand ∷ Star ∷ Plus ∷ Minus ∷ Tilde ∷
@@ -165,12 +165,12 @@ signs =
     AndAnd ∷ OrOr ∷ Question ∷ Colon ∷ Semicolon ∷ Equal ∷ StarEqual ∷ SlashEqual ∷ PercentEqual ∷ PlusEqual ∷ MinusEqual ∷ LeftShiftEqual ∷
     RightShiftEqual ∷ AmpersandEqual ∷ CaretEqual ∷ BarEqual ∷ Comma ∷ Name ∷ []
 
-abbrev pub is : Sign → Lexeme → Bool
-is sign t = number sign == number t.sign
+abbrev pub is : Terminal → Lexeme → Bool
+is terminal t = number terminal == number t.terminal
 
 -- one of these
-abbrev pub is_among : List Sign → Lexeme → Bool
-is_among all t = list_any (λ sign. is sign t) all
+abbrev pub is_among : List Terminal → Lexeme → Bool
+is_among all t = list_any (λ terminal. is terminal t) all
 
 abbrev pub has_text : List (List ℕ) → Lexeme → Bool
 has_text texts t = list_any (λ text. bytes_eq text t.text) texts

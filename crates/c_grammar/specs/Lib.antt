@@ -6,5 +6,7 @@ pub mod Specifiers
 pub mod Declarators
 pub mod Statements
 pub mod Grammar
+pub mod Lookahead
 pub mod Refusals
 pub mod Worked
+pub mod Deep

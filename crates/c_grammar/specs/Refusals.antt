@@ -10,7 +10,7 @@
 use Rattle.std.specs.Prelude.{◌≡◌, ℕ, ◌+◌, Bool, true, false, ◌⊎◌, ◌&&◌, List, [], ◌∷◌, ◌++◌, length, replicate}
 use Rattle.c_text.specs.declared.TokenKind.TheVariants.{Name}
 use Rattle.grammar.specs.Reading.{IsViable, HasFault}
-use Rattle.c_grammar.specs.declared.Sign.TheVariants as k
+use Rattle.c_grammar.specs.declared.terminal.Terminal.TheVariants as k
 use Rattle.c_grammar.specs.Lexemes.{Lexeme, is, has_text}
 use Rattle.c_grammar.specs.Rules.{Unit}
 use Rattle.c_grammar.specs.Specifiers.{reserved_names}
@@ -26,7 +26,7 @@ is_reserved_name t = is k.Name t && has_text reserved_names t
 -- grammar or the library knows.
 abbrev pub new_name : List ℕ → Lexeme
 new_name source = record {
-  sign = k.Name;
+  terminal = k.Name;
   token = record { kind = Name; start = length source; end = length source + (length source + 26) };
   text = replicate (length source + 26) 97;
 }

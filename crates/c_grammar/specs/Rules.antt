@@ -24,6 +24,14 @@ use Rattle.c_tree.specs.declared.statements.Stmt.{Stmt}
 use Rattle.c_tree.specs.declared.statements.BlockItem.{BlockItem}
 use Rattle.c_tree.specs.declared.statements.External as statements
 use Rattle.c_tree.specs.declared.statements.Tree.{Tree}
+use Rattle.c_grammar.specs.declared.state.Front.{Front}
+use Rattle.c_grammar.specs.declared.state.Precedence.{Precedence}
+use Rattle.c_grammar.specs.declared.state.SpecifierContext.{SpecifierContext}
+use Rattle.c_grammar.specs.declared.state.StorageClass.{StorageClass}
+use Rattle.c_grammar.specs.declared.state.TypeSpecifiers.{TypeSpecifiers}
+use Rattle.c_grammar.specs.declared.state.DeclaratorKind.{DeclaratorKind}
+use Rattle.c_grammar.specs.declared.state.Bracket.{Bracket}
+use Rattle.c_grammar.specs.declared.state.Reach.{Reach}
 
 -- A name that was declared, by its text, and whether it is a typedef name.
 pub record Declared : Type 0 where
@@ -35,46 +43,10 @@ pub record Scope : Type 0 where
   pub types : List Declared
   pub block : Bool
 
--- What an operand may begin with.
-pub data Front : Type 0 where
-  -- all that a cast may begin with, and what a unary expression may begin with
-  CastFront UnaryFront : Front
-  -- no parenthesis
-  BareFront : Front
-  -- the parenthesis at this place was read before, and an expression stands in it
-  OpenedFront : ℕ → Front
-
--- The levels of the binary operators, from the loosest to the tightest.
-pub data Level : Type 0 where
-  OrOr AndAnd Bar Caret Ampersand Equality Relation Shift Sum Product : Level
-
--- Where specifiers stand: at file scope, in a block, in a structure, in a parameter or a type name, or at the
--- front of a parameter that no bracket may begin (Declarators).
-pub data Home : Type 0 where
-  FileHome BlockHome MemberHome TypeHome BarredHome : Home
-
--- One of `typedef`, `static`, `extern` among the specifiers.
-pub data Storage : Type 0 where
-  NoStorage StaticStorage OtherStorage : Storage
-
--- The type specifiers so far, where there are some. A combination that more words may join is named by its words.
-pub data Kind : Type 0 where
-  CharKind IntKind SignedKind UnsignedKind FullKind : Kind
-
 pub record SpecsState : Type 0 where
-  pub storage : Storage
+  pub storage : StorageClass
   pub is_thread_local : Bool
-  pub kind : Option Kind
-
--- What a declarator declares: an ordinary name, a member, a parameter (which may lack its name), or nothing, as in a type name.
-pub data Naming : Type 0 where
-  Ordinary Membered Optional Nameless : Naming
-
--- What is known of a `[` at the front of a declarator: nothing; that none stands there; that none does and that the
--- declarator is not empty; or that the one at this place was read before.
-pub data Bracket : Type 0 where
-  Unknown Passed Barred : Bracket
-  Opened : ℕ → Bracket
+  pub type_specifiers : Option TypeSpecifiers
 
 -- Specifiers, and the place of a `[` behind them that began none of them.
 pub record SpecsRead : Type 0 where
@@ -85,11 +57,6 @@ pub record SpecsRead : Type 0 where
 pub record AttributesRead : Type 0 where
   pub attributes : List Attr
   pub bracket : Option ℕ
-
--- How far a declarator was read: nothing of it, its name alone (perhaps in parentheses), up to a parameter list with
--- its attributes, or up to something else.
-pub data Reach : Type 0 where
-  Nothing NameAlone Called More : Reach
 
 -- A declarator with the text of its name, the names of the parameters in the list that makes its name a
 -- function, and the place of a `[` behind it whose array isn't read yet.
@@ -131,22 +98,22 @@ pub record StatementRead : Type 0 where
 pub data Rule : Type 0 where
   -- expressions
   Expression Assignment Conditional Prefix Arguments MoreArguments : Scope → Rule
-  Binary : Level → Scope → Rule
+  Binary : Precedence → Scope → Rule
   Operand Postfix Primary : Front → Scope → Rule
   Texts : Rule
   -- specifiers and type names
-  Specs : Home → Scope → SpecsState → Rule
+  Specs : SpecifierContext → Scope → SpecsState → Rule
   Members MemberDeclarators Enumerators TypeName : Scope → Rule
   -- attributes
   ClangWords GnuWords : Rule
   Effect : AttrSpelling → Rule
   Attributes : Scope → Rule
   -- declarators
-  Declarator Direct : Scope → Naming → Bracket → Rule
-  Pointer Group : Scope → Naming → Rule
+  Declarator Direct : Scope → DeclaratorKind → Bracket → Rule
+  Pointer Group : Scope → DeclaratorKind → Rule
   Qualifiers : Rule
   Params : Scope → Rule
-  ParamList : Home → Scope → List Spec → Rule
+  ParamList : SpecifierContext → Scope → List Spec → Rule
   -- initializers and declarations; the Bool says whether they declare typedef names
   Initializer Braces Initializers : Scope → Rule
   InitDeclarators MoreDeclarators : Scope → Bool → Rule
@@ -162,7 +129,7 @@ abbrev pub ValueOf : Rule → Type 0
 ValueOf (Arguments s) = List Expr
 ValueOf (MoreArguments s) = List Expr
 ValueOf Texts = List Span
-ValueOf (Specs home s state) = SpecsRead
+ValueOf (Specs context s state) = SpecsRead
 ValueOf (Members s) = List Member
 ValueOf (MemberDeclarators s) = List declarator.Declarator
 ValueOf (Enumerators s) = List Enumerator
@@ -171,13 +138,13 @@ ValueOf ClangWords = List AttrWord
 ValueOf GnuWords = List AttrWord
 ValueOf (Effect spelling) = AttrWord
 ValueOf (Attributes s) = AttributesRead
-ValueOf (Declarator s naming b) = DeclaratorRead
-ValueOf (Direct s naming b) = DeclaratorRead
-ValueOf (Pointer s naming) = DeclaratorRead
-ValueOf (Group s naming) = DeclaratorRead
+ValueOf (Declarator s kind b) = DeclaratorRead
+ValueOf (Direct s kind b) = DeclaratorRead
+ValueOf (Pointer s kind) = DeclaratorRead
+ValueOf (Group s kind) = DeclaratorRead
 ValueOf Qualifiers = List PointerQualifier
 ValueOf (Params s) = ParamsRead
-ValueOf (ParamList home s specs) = ParamsRead
+ValueOf (ParamList context s specs) = ParamsRead
 ValueOf (Initializer s) = Init
 ValueOf (Braces s) = Init
 ValueOf (Initializers s) = List Init

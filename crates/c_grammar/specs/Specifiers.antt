@@ -38,11 +38,20 @@ use Rattle.c_tree.specs.declared.expressions.Enumerator.{Enumerator}
 use Rattle.c_tree.specs.declared.expressions.Declarator as declarator
 use Rattle.c_tree.specs.declared.expressions.TypeName as names
 use Rattle.c_tree.specs.declared.expressions.Expr.{Expr}
-use Rattle.c_grammar.specs.declared.Sign.{Sign}
-use Rattle.c_grammar.specs.declared.Sign.TheVariants as k
+use Rattle.c_grammar.specs.declared.terminal.Terminal.{Terminal}
+use Rattle.c_grammar.specs.declared.terminal.Terminal.TheVariants as k
 use Rattle.c_grammar.specs.Lexemes.{Lexeme, span, place, is, is_among, has_text}
 use Rattle.c_grammar.specs.Trees.{specs_place}
-use Rattle.c_grammar.specs.Rules.{Scope, Home, FileHome, BlockHome, MemberHome, TypeHome, BarredHome, Storage, NoStorage, StaticStorage, OtherStorage, Kind, CharKind, IntKind, SignedKind, UnsignedKind, FullKind, SpecsState, Membered, Nameless, Bracket, Unknown, Passed, Opened, SpecsRead, AttributesRead, Conditional, Specs, Members, MemberDeclarators, Enumerators, ClangWords, GnuWords, Effect, Attributes, Declarator}
+use Rattle.c_grammar.specs.declared.state.SpecifierContext.{SpecifierContext}
+use Rattle.c_grammar.specs.declared.state.StorageClass.{StorageClass}
+use Rattle.c_grammar.specs.declared.state.TypeSpecifiers.{TypeSpecifiers}
+use Rattle.c_grammar.specs.declared.state.Bracket.{Bracket}
+use Rattle.c_grammar.specs.declared.state.SpecifierContext.TheVariants.{File as FileContext, Block as BlockContext, Member as MemberContext, «Type» as TypeContext, Barred as BarredContext}
+use Rattle.c_grammar.specs.declared.state.StorageClass.TheVariants.{Absent as NoStorage, Static as StaticStorage, Other as OtherStorage}
+use Rattle.c_grammar.specs.declared.state.TypeSpecifiers.TheVariants.{Char as CharSpecifier, Int as IntSpecifier, Signed as SignedSpecifier, Unsigned as UnsignedSpecifier, Complete as CompleteSpecifiers}
+use Rattle.c_grammar.specs.declared.state.DeclaratorKind.TheVariants.{Member as MemberKind, Abstract as AbstractKind}
+use Rattle.c_grammar.specs.declared.state.Bracket.TheVariants.{Unknown, Passed, Opened}
+use Rattle.c_grammar.specs.Rules.{Scope, SpecsState, SpecsRead, AttributesRead, Conditional, Specs, Members, MemberDeclarators, Enumerators, ClangWords, GnuWords, Effect, Attributes, Declarator}
 use Rattle.c_grammar.specs.Expressions.{Reading, word, dead_end, has_type}
 
 -- the reserved names: they are not declared as ordinary names
@@ -58,19 +67,19 @@ is_ordinary_name t = is k.Name t && not (has_text reserved_names t)
 
 -- no specifier was read yet
 abbrev pub no_specs : SpecsState
-no_specs = record { storage = NoStorage; is_thread_local = false; kind = None }
+no_specs = record { storage = NoStorage; is_thread_local = false; type_specifiers = None }
 
-abbrev pub has_no_storage : Storage → Bool
+abbrev pub has_no_storage : StorageClass → Bool
 has_no_storage NoStorage = true
 has_no_storage _ = false
 
-abbrev pub is_static : Storage → Bool
+abbrev pub is_static : StorageClass → Bool
 is_static StaticStorage = true
 is_static _ = false
 
-abbrev pub is_storage_word : Home → SpecsState → Lexeme → Bool
-is_storage_word FileHome state t = is k.ThreadLocal t || (is_among (k.Typedef ∷ k.Static ∷ k.Extern ∷ []) t && has_no_storage state.storage)
-is_storage_word BlockHome state t = is k.ThreadLocal t || (is k.Static t && has_no_storage state.storage)
+abbrev pub is_storage_word : SpecifierContext → SpecsState → Lexeme → Bool
+is_storage_word FileContext state t = is k.ThreadLocal t || (is_among (k.Typedef ∷ k.Static ∷ k.Extern ∷ []) t && has_no_storage state.storage)
+is_storage_word BlockContext state t = is k.ThreadLocal t || (is k.Static t && has_no_storage state.storage)
 is_storage_word _ state t = false
 
 abbrev pub is_function_word : Scope → Lexeme → Bool
@@ -80,53 +89,53 @@ abbrev pub is_qualifier : Lexeme → Bool
 is_qualifier t = is_among (k.Const ∷ k.Volatile ∷ k.Restrict ∷ []) t
 
 -- the type word joins what was read before it
-abbrev pub joins : Option Kind → Sign → Bool
-joins None sign = true
-joins (Some CharKind) k.Signed = true
-joins (Some IntKind) k.Signed = true
-joins (Some IntKind) k.Unsigned = true
-joins (Some SignedKind) k.Char = true
-joins (Some SignedKind) k.Int = true
-joins (Some UnsignedKind) k.Int = true
-joins (Some kind) sign = false
+abbrev pub joins : Option TypeSpecifiers → Terminal → Bool
+joins None terminal = true
+joins (Some CharSpecifier) k.Signed = true
+joins (Some IntSpecifier) k.Signed = true
+joins (Some IntSpecifier) k.Unsigned = true
+joins (Some SignedSpecifier) k.Char = true
+joins (Some SignedSpecifier) k.Int = true
+joins (Some UnsignedSpecifier) k.Int = true
+joins (Some type_specifiers) terminal = false
 
-abbrev pub joined : Option Kind → Sign → Kind
-joined None k.Char = CharKind
-joined None k.Int = IntKind
-joined None k.Signed = SignedKind
-joined None k.Unsigned = UnsignedKind
-joined kind sign = FullKind
+abbrev pub joined : Option TypeSpecifiers → Terminal → TypeSpecifiers
+joined None k.Char = CharSpecifier
+joined None k.Int = IntSpecifier
+joined None k.Signed = SignedSpecifier
+joined None k.Unsigned = UnsignedSpecifier
+joined type_specifiers terminal = CompleteSpecifiers
 
 abbrev pub is_type_word : SpecsState → Lexeme → Bool
-is_type_word state t = is_among (k.Void ∷ k.Char ∷ k.Int ∷ k.Signed ∷ k.Unsigned ∷ []) t && joins state.kind t.sign
+is_type_word state t = is_among (k.Void ∷ k.Char ∷ k.Int ∷ k.Signed ∷ k.Unsigned ∷ []) t && joins state.type_specifiers t.terminal
 
 -- a typedef name, where no type specifier stands before it
 abbrev pub is_type_here : Scope → SpecsState → Lexeme → Bool
-is_type_here s state t = is k.Name t && (is_none state.kind && has_type s.types t)
+is_type_here s state t = is k.Name t && (is_none state.type_specifiers && has_type s.types t)
 
 -- a specifier of one word
-abbrev pub is_spec_word : Home → Scope → SpecsState → Lexeme → Bool
-is_spec_word home s state t =
-    is_storage_word home state t
+abbrev pub is_spec_word : SpecifierContext → Scope → SpecsState → Lexeme → Bool
+is_spec_word context s state t =
+    is_storage_word context state t
     || (is_function_word s t || (is_qualifier t || (is_type_word state t || is_type_here s state t)))
 
-abbrev pub after_sign : SpecsState → Sign → SpecsState
-after_sign state k.Typedef = record state { storage = OtherStorage }
-after_sign state k.Static = record state { storage = StaticStorage }
-after_sign state k.Extern = record state { storage = OtherStorage }
-after_sign state k.ThreadLocal = record state { is_thread_local = true }
-after_sign state k.Void = record state { kind = Some FullKind }
-after_sign state k.Char = record state { kind = Some (joined state.kind k.Char) }
-after_sign state k.Int = record state { kind = Some (joined state.kind k.Int) }
-after_sign state k.Signed = record state { kind = Some (joined state.kind k.Signed) }
-after_sign state k.Unsigned = record state { kind = Some (joined state.kind k.Unsigned) }
-after_sign state k.Name = record state { kind = Some FullKind }
-after_sign state _ = state
+abbrev pub after_terminal : SpecsState → Terminal → SpecsState
+after_terminal state k.Typedef = record state { storage = OtherStorage }
+after_terminal state k.Static = record state { storage = StaticStorage }
+after_terminal state k.Extern = record state { storage = OtherStorage }
+after_terminal state k.ThreadLocal = record state { is_thread_local = true }
+after_terminal state k.Void = record state { type_specifiers = Some CompleteSpecifiers }
+after_terminal state k.Char = record state { type_specifiers = Some (joined state.type_specifiers k.Char) }
+after_terminal state k.Int = record state { type_specifiers = Some (joined state.type_specifiers k.Int) }
+after_terminal state k.Signed = record state { type_specifiers = Some (joined state.type_specifiers k.Signed) }
+after_terminal state k.Unsigned = record state { type_specifiers = Some (joined state.type_specifiers k.Unsigned) }
+after_terminal state k.Name = record state { type_specifiers = Some CompleteSpecifiers }
+after_terminal state _ = state
 
 abbrev pub after_type : SpecsState → SpecsState
-after_type state = record state { kind = Some FullKind }
+after_type state = record state { type_specifiers = Some CompleteSpecifiers }
 
-abbrev pub spec_of : Sign → Lexeme → Spec
+abbrev pub spec_of : Terminal → Lexeme → Spec
 spec_of k.Typedef t = spec.Storage (place t) storage.Typedef
 spec_of k.Static t = spec.Storage (place t) storage.Static
 spec_of k.Extern t = spec.Storage (place t) storage.Extern
@@ -145,58 +154,58 @@ spec_of _ t = spec.TypedefName (span t)
 
 -- The words of a type, if there are any, are one whole form, and `_Thread_local` in a block stands with `static`.
 -- This is asked where the specifiers end.
-abbrev pub has_static : Home → SpecsState → Bool
-has_static BlockHome state = not state.is_thread_local || is_static state.storage
+abbrev pub has_static : SpecifierContext → SpecsState → Bool
+has_static BlockContext state = not state.is_thread_local || is_static state.storage
 has_static _ state = true
 
-abbrev pub is_whole : Home → SpecsState → Bool
-is_whole home state = is_some state.kind && has_static home state
+abbrev pub is_whole : SpecifierContext → SpecsState → Bool
+is_whole context state = is_some state.type_specifiers && has_static context state
 
 -- structures and enumerations are defined here
-abbrev pub defines : Home → Bool
-defines FileHome = true
-defines MemberHome = true
+abbrev pub defines : SpecifierContext → Bool
+defines FileContext = true
+defines MemberContext = true
 defines _ = false
 
 -- an abstract declarator, which may begin with a `[`, may follow
-abbrev pub is_abstract : Home → Bool
-is_abstract TypeHome = true
-is_abstract BarredHome = true
+abbrev pub is_abstract : SpecifierContext → Bool
+is_abstract TypeContext = true
+is_abstract BarredContext = true
 is_abstract _ = false
 
-abbrev pub is_barred : Home → Bool
-is_barred BarredHome = true
+abbrev pub is_barred : SpecifierContext → Bool
+is_barred BarredContext = true
 is_barred _ = false
 
 -- behind the first specifier a bracket may stand
-abbrev pub next_home : Home → Home
-next_home BarredHome = TypeHome
-next_home home = home
+abbrev pub next_context : SpecifierContext → SpecifierContext
+next_context BarredContext = TypeContext
+next_context context = context
 
 abbrev pub with_spec : Spec → SpecsRead → SpecsRead
 with_spec first more = record { specs = first ∷ more.specs; bracket = more.bracket }
 
-abbrev pub more_specs : Home → Scope → SpecsState → Spec → Reading SpecsRead
-more_specs home s state first = Call (Specs (next_home home) s state) (λ more. Return (with_spec first more))
+abbrev pub more_specs : SpecifierContext → Scope → SpecsState → Spec → Reading SpecsRead
+more_specs context s state first = Call (Specs (next_context context) s state) (λ more. Return (with_spec first more))
 
-abbrev pub opens_definition : Home → Lexeme → Bool
-opens_definition home t = is k.OpenBrace t && defines home
+abbrev pub opens_definition : SpecifierContext → Lexeme → Bool
+opens_definition context t = is k.OpenBrace t && defines context
 
 -- A tag with a definition behind it or alone, or a definition without a tag.
-abbrev pub tagged : Home → (Option Span → Reading SpecsRead) → (Span → Reading SpecsRead) → Reading SpecsRead
-tagged home definition alone =
-    Either (word k.Name (λ tag. Either (Take (opens_definition home) (λ o. definition (Some (span tag)))) (alone (span tag))))
-    (Take (opens_definition home) (λ o. definition None))
+abbrev pub tagged : SpecifierContext → (Option Span → Reading SpecsRead) → (Span → Reading SpecsRead) → Reading SpecsRead
+tagged context definition alone =
+    Either (word k.Name (λ tag. Either (Take (opens_definition context) (λ o. definition (Some (span tag)))) (alone (span tag))))
+    (Take (opens_definition context) (λ o. definition None))
 
-abbrev pub structure : Home → Scope → SpecsState → ℕ → Reading SpecsRead
-structure home s state p =
-    tagged home (λ tag. Call (Members s) (λ lines. more_specs home s state (spec.Struct p tag lines)))
-    (λ tag. more_specs home s state (spec.StructName p tag))
+abbrev pub structure : SpecifierContext → Scope → SpecsState → ℕ → Reading SpecsRead
+structure context s state p =
+    tagged context (λ tag. Call (Members s) (λ lines. more_specs context s state (spec.Struct p tag lines)))
+    (λ tag. more_specs context s state (spec.StructName p tag))
 
-abbrev pub enumeration : Home → Scope → SpecsState → ℕ → Reading SpecsRead
-enumeration home s state p =
-    tagged home (λ tag. Call (Enumerators s) (λ lines. more_specs home s state (spec.Enum p tag lines)))
-    (λ tag. more_specs home s state (spec.EnumName p tag))
+abbrev pub enumeration : SpecifierContext → Scope → SpecsState → ℕ → Reading SpecsRead
+enumeration context s state p =
+    tagged context (λ tag. Call (Enumerators s) (λ lines. more_specs context s state (spec.Enum p tag lines)))
+    (λ tag. more_specs context s state (spec.EnumName p tag))
 
 abbrev pub attr : ℕ → AttrSpelling → List AttrWord → Attr
 attr p spelling words = record { place = p; spelling = spelling; words = words }
@@ -214,33 +223,33 @@ end_specs false bracket = dead_end (record { specs = []; bracket = bracket })
 -- decides: a second `[` makes it an attribute; else the specifiers have ended before it, and its place is told. An
 -- array is a node and an attribute none, so the `[` itself is never refused for depth, and a node that begins with
 -- the token behind it asks the same as one that begins with the `[`.
-abbrev pub bracket_rest : Bool → Home → Scope → SpecsState → ℕ → Reading SpecsRead
-bracket_rest ends home s state p =
-    Either (word k.OpenBracket (λ o. Call ClangWords (λ words. more_specs home s state (spec.Attribute (attr p Brackets words)))))
+abbrev pub bracket_rest : Bool → SpecifierContext → Scope → SpecsState → ℕ → Reading SpecsRead
+bracket_rest ends context s state p =
+    Either (word k.OpenBracket (λ o. Call ClangWords (λ words. more_specs context s state (spec.Attribute (attr p Brackets words)))))
     (end_specs ends (Some p))
 
-abbrev pub specs_until : Bool → Home → Scope → SpecsState → Reading SpecsRead
-specs_until ends home s state =
-    Either (Take (is_spec_word home s state) (λ t. more_specs home s (after_sign state t.sign) (spec_of t.sign t)))
-    (Either (Take (λ t. is k.Struct t && is_none state.kind) (λ t. structure home s (after_type state) (place t)))
-    (Either (Take (λ t. is k.Enum t && is_none state.kind) (λ t. enumeration home s (after_type state) (place t)))
-    (Either (word k.Attribute (λ t. gnu_rest (λ words. more_specs home s state (spec.Attribute (attr (place t) Gnu words)))))
-    (Either (Take (λ t. is k.OpenBracket t && not (is_barred home)) (λ t. bracket_rest (is_abstract home && ends) home s state (place t)))
+abbrev pub specs_until : Bool → SpecifierContext → Scope → SpecsState → Reading SpecsRead
+specs_until ends context s state =
+    Either (Take (is_spec_word context s state) (λ t. more_specs context s (after_terminal state t.terminal) (spec_of t.terminal t)))
+    (Either (Take (λ t. is k.Struct t && is_none state.type_specifiers) (λ t. structure context s (after_type state) (place t)))
+    (Either (Take (λ t. is k.Enum t && is_none state.type_specifiers) (λ t. enumeration context s (after_type state) (place t)))
+    (Either (word k.Attribute (λ t. gnu_rest (λ words. more_specs context s state (spec.Attribute (attr (place t) Gnu words)))))
+    (Either (Take (λ t. is k.OpenBracket t && not (is_barred context)) (λ t. bracket_rest (is_abstract context && ends) context s state (place t)))
     (end_specs ends None)))))
 
-abbrev pub specs : Home → Scope → SpecsState → Reading SpecsRead
-specs home s state = specs_until (is_whole home state) home s state
+abbrev pub specs : SpecifierContext → Scope → SpecsState → Reading SpecsRead
+specs context s state = specs_until (is_whole context state) context s state
 
 -- the lines of a structure up to its `}`, and the declarators of a line up to their `;`
 abbrev pub members : Scope → Reading (List Member)
 members s =
-    Call (Specs MemberHome s no_specs) (λ x. Call (MemberDeclarators s) (λ ds.
+    Call (Specs MemberContext s no_specs) (λ x. Call (MemberDeclarators s) (λ ds.
     Either (word k.CloseBrace (λ c. Return (record { place = specs_place x.specs; specs = x.specs; declarators = ds } ∷ [])))
     (Call (Members s) (λ more. Return (record { place = specs_place x.specs; specs = x.specs; declarators = ds } ∷ more)))))
 
 abbrev pub member_declarators : Scope → Reading (List declarator.Declarator)
 member_declarators s =
-    Call (Declarator s Membered Unknown) (λ d.
+    Call (Declarator s MemberKind Unknown) (λ d.
     Either (word k.Comma (λ c. Call (MemberDeclarators s) (λ more. Return (d.tree ∷ more))))
     (word k.Semicolon (λ c. Return (d.tree ∷ []))))
 
@@ -322,5 +331,5 @@ after (Some p) = Opened p
 
 abbrev pub type_name : Scope → Reading names.TypeName
 type_name s =
-    Call (Specs TypeHome s no_specs) (λ x. Call (Declarator s Nameless (after x.bracket))
+    Call (Specs TypeContext s no_specs) (λ x. Call (Declarator s AbstractKind (after x.bracket))
     (λ d. Return (record { place = specs_place x.specs; specs = x.specs; declarator = d.tree })))

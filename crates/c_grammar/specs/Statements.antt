@@ -27,10 +27,13 @@ use Rattle.c_tree.specs.declared.statements.ForStart.TheVariants as start
 use Rattle.c_tree.specs.declared.statements.External.TheVariants as external_tree
 use Rattle.c_tree.specs.declared.statements.External as statements
 use Rattle.c_tree.specs.declared.statements.Tree.{Tree}
-use Rattle.c_grammar.specs.declared.Sign.TheVariants as k
+use Rattle.c_grammar.specs.declared.terminal.Terminal.TheVariants as k
 use Rattle.c_grammar.specs.Lexemes.{Lexeme, place, is}
 use Rattle.c_grammar.specs.Trees.{place_of, specs_place, has_typedef}
-use Rattle.c_grammar.specs.Rules.{Declared, Scope, FileHome, BlockHome, Ordinary, Unknown, SpecsRead, DeclaratorRead, DeclaratorsRead, DeclarationRead, ExternalRead, BlockRead, StatementRead, Expression, Assignment, Specs, Declarator, Initializer, Braces, Initializers, InitDeclarators, MoreDeclarators, Declaration, MaybeExpression, Statement, Block, BlockItems, External, Externals}
+use Rattle.c_grammar.specs.declared.state.SpecifierContext.TheVariants.{File as FileContext, Block as BlockContext}
+use Rattle.c_grammar.specs.declared.state.DeclaratorKind.TheVariants.{Ordinary as OrdinaryKind}
+use Rattle.c_grammar.specs.declared.state.Bracket.TheVariants.{Unknown}
+use Rattle.c_grammar.specs.Rules.{Declared, Scope, SpecsRead, DeclaratorRead, DeclaratorsRead, DeclarationRead, ExternalRead, BlockRead, StatementRead, Expression, Assignment, Specs, Declarator, Initializer, Braces, Initializers, InitDeclarators, MoreDeclarators, Declaration, MaybeExpression, Statement, Block, BlockItems, External, Externals}
 use Rattle.c_grammar.specs.Expressions.{Reading, word}
 use Rattle.c_grammar.specs.Specifiers.{no_specs}
 use Rattle.c_grammar.specs.Declarators.{hide, hide_all}
@@ -66,7 +69,7 @@ behind_declarator s typedefs x result =
     (Call (MoreDeclarators s typedefs) (λ more. Return (result (add_declarator x None more))))
 
 abbrev pub init_declarators : Scope → Bool → Reading DeclaratorsRead
-init_declarators s typedefs = Call (Declarator s Ordinary Unknown) (λ x. behind_declarator (declare s typedefs x.name) typedefs x (λ all. all))
+init_declarators s typedefs = Call (Declarator s OrdinaryKind Unknown) (λ x. behind_declarator (declare s typedefs x.name) typedefs x (λ all. all))
 
 abbrev pub more_declarators : Scope → Bool → Reading DeclaratorsRead
 more_declarators s typedefs =
@@ -77,7 +80,7 @@ declared x all = record { tree = record { place = specs_place x.specs; specs = x
 
 abbrev pub declaration : Scope → Reading DeclarationRead
 declaration s =
-    Call (Specs BlockHome s no_specs) (λ x.
+    Call (Specs BlockContext s no_specs) (λ x.
     Either (word k.Semicolon (λ c. Return (declared x (record { declarators = []; scope = s }))))
     (Call (InitDeclarators s (has_typedef x.specs)) (λ all. Return (declared x all))))
 
@@ -146,9 +149,9 @@ as_external x = record { tree = external_tree.Declaration x.tree; scope = x.scop
 
 abbrev pub external : Scope → Reading ExternalRead
 external s =
-    Call (Specs FileHome s no_specs) (λ x.
+    Call (Specs FileContext s no_specs) (λ x.
     Either (word k.Semicolon (λ c. Return (as_external (declared x (record { declarators = []; scope = s })))))
-    (Call (Declarator s Ordinary Unknown) (λ y.
+    (Call (Declarator s OrdinaryKind Unknown) (λ y.
     Either (Call (Block (body_scope (declare s (has_typedef x.specs) y.name) y) false)
     (λ body. Return (defined (declare s (has_typedef x.specs) y.name) x y body)))
     (behind_declarator (declare s (has_typedef x.specs) y.name) (has_typedef x.specs) y (λ all. as_external (declared x all))))))

@@ -25,15 +25,15 @@ place_of (e.Call' p _ _ _ _) = p
 place_of (e.Access' p _ _ _ _) = p
 place_of (e.Step' p _ _ _) = p
 place_of (e.Unary' p _ _ _) = p
-place_of (e.SizeofType' p _ _ _ _ _) = p
-place_of (e.Cast' p _ _ _ _ _ _ _) = p
+place_of (e.SizeofType' p _ _) = p
+place_of (e.Cast' p _ _ _ _) = p
 place_of (e.Binary' p _ _ _ _ _ _) = p
 place_of (e.Conditional' p _ _ _ _ _ _) = p
 place_of (e.Assignment' p _ _ _ _ _ _) = p
 
 -- a cast, a conditional expression, and a unary expression, which is neither of them, no binary operation and no assignment
 abbrev pub is_cast : Expr → Bool
-is_cast (e.Cast' _ _ _ _ _ _ _ _) = true
+is_cast (e.Cast' _ _ _ _ _) = true
 is_cast _ = false
 
 abbrev pub is_conditional : Expr → Bool
@@ -41,7 +41,7 @@ is_conditional (e.Conditional' _ _ _ _ _ _ _) = true
 is_conditional _ = false
 
 abbrev pub is_unary : Expr → Bool
-is_unary (e.Cast' _ _ _ _ _ _ _ _) = false
+is_unary (e.Cast' _ _ _ _ _) = false
 is_unary (e.Binary' _ _ _ _ _ _ _) = false
 is_unary (e.Conditional' _ _ _ _ _ _ _) = false
 is_unary (e.Assignment' _ _ _ _ _ _ _) = false

@@ -3,20 +3,21 @@ use Rattle.std.specs.Prelude.{ℕ, ◌+◌, Bool, true, false, List, [], ◌∷�
 use Rattle.grammar.specs.Parser.{Outcome, Got, Bad, parse_all}
 use Rattle.c_text.specs.declared.TokenKind.TheVariants.{Name}
 use Rattle.c_tree.specs.declared.statements.Tree.{Tree}
-use Rattle.c_grammar.specs.declared.Sign.{Sign}
-use Rattle.c_grammar.specs.declared.Sign.TheVariants as k
+use Rattle.c_grammar.specs.declared.terminal.Terminal.{Terminal}
+use Rattle.c_grammar.specs.declared.terminal.Terminal.TheVariants as k
 use Rattle.c_grammar.specs.Lexemes.{Lexeme}
 use Rattle.c_grammar.specs.Rules.{Unit}
-use Rattle.c_grammar.specs.Grammar.{c_grammar, c_hints}
+use Rattle.c_grammar.specs.Grammar.{c_grammar}
+use Rattle.c_grammar.specs.Lookahead.{c_lookahead}
 
 -- tokens at the places 0, 1, 2 and so on; of a name with its text, of others without
 pub data Written : Type 0 where
-  sign : Sign → Written
+  terminal : Terminal → Written
   name : List ℕ → Written
 
 abbrev pub at : ℕ → Written → Lexeme
-at place (sign s) = record { sign = s; token = record { kind = Name; start = place; end = place + 1 }; text = [] }
-at place (name text) = record { sign = k.Name; token = record { kind = Name; start = place; end = place + 1 }; text = text }
+at place (terminal s) = record { terminal = s; token = record { kind = Name; start = place; end = place + 1 }; text = [] }
+at place (name text) = record { terminal = k.Name; token = record { kind = Name; start = place; end = place + 1 }; text = text }
 
 abbrev pub written_from : ℕ → List Written → List Lexeme
 written_from place [] = []
@@ -28,8 +29,8 @@ written all = written_from 0 all
 -- `void f(void) [[clang::`, which the word `nonbl` is written behind
 abbrev pub cut_before : List Lexeme
 cut_before =
-    written (sign k.Void ∷ name (codes "f") ∷ sign k.OpenParen ∷ sign k.Void ∷ sign k.CloseParen ∷ sign k.OpenBracket ∷ sign k.OpenBracket
-    ∷ name (codes "clang") ∷ sign k.Colon ∷ sign k.Colon ∷ [])
+    written (terminal k.Void ∷ name (codes "f") ∷ terminal k.OpenParen ∷ terminal k.Void ∷ terminal k.CloseParen ∷ terminal k.OpenBracket ∷ terminal k.OpenBracket
+    ∷ name (codes "clang") ∷ terminal k.Colon ∷ terminal k.Colon ∷ [])
 
 abbrev pub cut_word : Lexeme
 cut_word = at 10 (name (codes "nonbl"))
@@ -40,7 +41,7 @@ is_read (Got x depth left) = true
 is_read (Bad deep left) = false
 
 abbrev pub reads : ℕ → List Written → Bool
-reads depth tokens = is_read (parse_all c_grammar c_hints depth Unit (written tokens))
+reads depth tokens = is_read (parse_all c_grammar c_lookahead depth Unit (written tokens))
 
 -- the place at which the tokens are refused, 998 at the end of the file, and 999 where they are read
 abbrev pub refused_place : List Lexeme → ℕ
@@ -52,4 +53,4 @@ place_in (Got x depth left) = 999
 place_in (Bad deep left) = refused_place left
 
 abbrev pub refused_at : ℕ → List Written → ℕ
-refused_at depth tokens = place_in (parse_all c_grammar c_hints depth Unit (written tokens))
+refused_at depth tokens = place_in (parse_all c_grammar c_lookahead depth Unit (written tokens))

@@ -6,17 +6,28 @@
 #![tactic(auto)]
 
 ghost use Rattle.std.specs.Prelude.{◌≡◌, ◌≤◌, ℕ, Bool, List, ◌∷◌, [], ◌++◌};
-ghost use Rattle.grammar.specs.Fits.{IsFit};
+ghost use Rattle.grammar.specs.LL1.{IsLL1};
 ghost use Rattle.grammar.specs.Parser.{Got, Bad, parse_all};
 ghost use Rattle.grammar.specs.Reading.{IsRead, HasFault};
 ghost use Rattle.c_tree.specs.declared.statements.Tree.{Tree};
 ghost use Rattle.c_grammar.specs.Lexemes.{Lexeme};
 ghost use Rattle.c_grammar.specs.Rules.{Unit as WholeFile};
-ghost use Rattle.c_grammar.specs.Grammar.{c_grammar, c_hints};
+ghost use Rattle.c_grammar.specs.Grammar.{c_grammar};
+ghost use Rattle.c_grammar.specs.Lookahead.{c_lookahead};
 ghost use Rattle.c_grammar.specs.Refusals.{IsRefusedWith};
 ghost use Rattle.c_grammar.specs.Worked.{cut_before, cut_word};
+ghost use Rattle.c_grammar.specs.Deep.{IsDepthOfTree};
 
 use grammar::{Language, parser_is_exact};
+
+mod state;
+mod terminal;
+
+pub use state::{
+    Bracket, DeclaratorKind, Front, Precedence, Reach, SpecifierContext, StorageClass,
+    TypeSpecifiers,
+};
+pub use terminal::Terminal;
 
 /// The language of C sources. No value is needed: all of it is for proofs.
 pub struct CSource;
@@ -24,22 +35,22 @@ pub struct CSource;
 impl Language for CSource {
     ghost grammar = { c_grammar };
 
-    ghost hints = { c_hints };
+    ghost lookahead = { c_lookahead };
 }
 
 /// One token decides in the grammar, so that what `grammar::parser_is_exact` says holds of it: a parser that
 /// looks one token ahead gives exactly its readings. (This project's own rule.)
-pub fn one_token_decides()
-    ensures { IsFit c_grammar c_hints }
+pub fn grammar_is_ll1()
+    ensures { IsLL1 c_grammar c_lookahead }
 {}
 
 /// What it means for whole files: each reading of them is what the parser on lists gives, with no greater depth, and
 /// what it refuses is the refused token.
 pub fn files_are_parsed()
     ensures given { (tokens : List Lexeme) (x : Tree) (depth room : ℕ) → IsRead c_grammar depth WholeFile tokens x → depth ≤ room
-        → (least : ℕ) × (least ≤ depth) × (parse_all c_grammar c_hints room WholeFile tokens ≡ Got x least []) }
+        → (least : ℕ) × (least ≤ depth) × (parse_all c_grammar c_lookahead room WholeFile tokens ≡ Got x least []) }
     ensures refused { (tokens : List Lexeme) (room : ℕ) (deep : Bool) (rest : List Lexeme)
-        → parse_all c_grammar c_hints room WholeFile tokens ≡ Bad deep rest → HasFault c_grammar room WholeFile tokens deep rest }
+        → parse_all c_grammar c_lookahead room WholeFile tokens ≡ Bad deep rest → HasFault c_grammar room WholeFile tokens deep rest }
 {
     parser_is_exact::<CSource>();
 }
@@ -49,84 +60,8 @@ pub fn cut_attribute_is_refused()
     ensures { (source : List ℕ) → IsRefusedWith source (cut_before ++ cut_word ∷ []) 1 (cut_word ∷ []) }
 {}
 
-/// What a token is to the grammar.
-#[derive(Clone, Copy, PartialEq, Eq)]
-pub enum Sign {
-    Name,
-    Number,
-    Character,
-    Text,
-    /// A keyword that the grammar doesn't use, or `...`.
-    Unused,
-    Typedef,
-    Static,
-    Extern,
-    ThreadLocal,
-    Inline,
-    NoReturn,
-    Const,
-    Volatile,
-    Restrict,
-    Void,
-    Char,
-    Int,
-    Signed,
-    Unsigned,
-    Struct,
-    Enum,
-    Attribute,
-    If,
-    Else,
-    While,
-    Do,
-    For,
-    Break,
-    Continue,
-    Return,
-    Sizeof,
-    OpenBracket,
-    CloseBracket,
-    OpenParen,
-    CloseParen,
-    OpenBrace,
-    CloseBrace,
-    Dot,
-    Arrow,
-    Increment,
-    Decrement,
-    Ampersand,
-    Star,
-    Plus,
-    Minus,
-    Tilde,
-    Exclamation,
-    Slash,
-    Percent,
-    LeftShift,
-    RightShift,
-    Less,
-    Greater,
-    LessOrEqual,
-    GreaterOrEqual,
-    EqualEqual,
-    NotEqual,
-    Caret,
-    Bar,
-    AndAnd,
-    OrOr,
-    Question,
-    Colon,
-    Semicolon,
-    Equal,
-    StarEqual,
-    SlashEqual,
-    PercentEqual,
-    PlusEqual,
-    MinusEqual,
-    LeftShiftEqual,
-    RightShiftEqual,
-    AmpersandEqual,
-    CaretEqual,
-    BarEqual,
-    Comma,
-}
+/// A file is read as a tree within a room exactly where it is read as that tree within any, and the tree is no deeper
+/// than the room: the nodes that the grammar counts are those of the tree. (This project's own rule.)
+pub fn depth_is_that_of_the_tree()
+    ensures { IsDepthOfTree }
+{}

@@ -3,8 +3,8 @@
 use Rattle.std.proofs.Common.{◌≡◌, ℕ, ltb, Bool, true, false, not, ◌||◌, Some, None, refl, sym}
 use Rattle.std.proofs.lemmas.Bool.{ltb-true}
 use Rattle.grammar.specs.Parts.{Parts, Return, Take, Call, Either, Production, Plain, Node, Chain}
-use Rattle.grammar.specs.Parser.{Hints, nothing, begins, holds}
-use Rattle.grammar.specs.Fits.{Decided, Ranked, FitsProduction}
+use Rattle.grammar.specs.Parser.{Lookahead, nothing, begins, holds}
+use Rattle.grammar.specs.LL1.{Decided, Ranked, IsLL1Production}
 
 -- where the first holds, so does the second
 abbrev pub within : Bool → Bool → Bool
@@ -46,36 +46,36 @@ alike_self true = refl
 alike_self false = refl
 
 -- `All` says of a test that all tokens pass it.
-module _ {T N : Type 0} {V : N → Type 0} (hints : Hints T N V) (All : (T → Bool) → Type 0)
+module _ {T N : Type 0} {V : N → Type 0} (lookahead : Lookahead T N V) (All : (T → Bool) → Type 0)
     (all : (test : T → Bool) → All test → (t : T) → test t ≡ true) where
   abbrev pub Checks : {A : Type 0} → (A → T → Bool) → Parts T N V A → Type 0
   Checks follows (Return x) = Unit {0}
   Checks follows (Take test rest) = (t : T) → test t ≡ true → Checks follows (rest t)
   Checks {A} follows (Call n rest) = (a : V n) →
-      All (λ t. within (begins hints (rest a) t) (hints.may n a t))
-      × All (λ t. within (holds (λ x. follows x t) (nothing hints (rest a))) (hints.may n a t))
+      All (λ t. within (begins lookahead (rest a) t) (lookahead.follow n a t))
+      × All (λ t. within (holds (λ x. follows x t) (nothing lookahead (rest a))) (lookahead.follow n a t))
       × Checks follows (rest a)
   Checks {A} follows (Either one other) =
-      (nothing hints one ≡ None)
-      × All (λ t. apart (begins hints one t) (begins hints other t))
-      × All (λ t. apart (holds (λ x. follows x t) (nothing hints other)) (begins hints one t))
+      (nothing lookahead one ≡ None)
+      × All (λ t. apart (begins lookahead one t) (begins lookahead other t))
+      × All (λ t. apart (holds (λ x. follows x t) (nothing lookahead other)) (begins lookahead one t))
       × Checks follows one × Checks follows other
 
-  pub decided : {A : Type 0} (follows : A → T → Bool) → (g : Parts T N V A) → Checks follows g → Decided hints follows g
+  pub decided : {A : Type 0} (follows : A → T → Bool) → (g : Parts T N V A) → Checks follows g → Decided lookahead follows g
   decided follows (Return x) c = tt
   decided follows (Take test rest) c = λ t e. decided follows (rest t) (c t e)
   decided follows (Call n rest) c =
       λ a. (
-        (λ t e. within_true (begins hints (rest a) t) (hints.may n a t) (all (λ u. within (begins hints (rest a) u) (hints.may n a u)) (c a).0 t) e),
-        (λ x t e f. within_true (holds (λ y. follows y t) (nothing hints (rest a))) (hints.may n a t)
-            (all (λ u. within (holds (λ y. follows y u) (nothing hints (rest a))) (hints.may n a u)) (c a).1 t) (rw e f)),
+        (λ t e. within_true (begins lookahead (rest a) t) (lookahead.follow n a t) (all (λ u. within (begins lookahead (rest a) u) (lookahead.follow n a u)) (c a).0 t) e),
+        (λ x t e f. within_true (holds (λ y. follows y t) (nothing lookahead (rest a))) (lookahead.follow n a t)
+            (all (λ u. within (holds (λ y. follows y u) (nothing lookahead (rest a))) (lookahead.follow n a u)) (c a).1 t) (rw e f)),
         decided follows (rest a) (c a).2,
       )
   decided follows (Either one other) c = (
     c.0,
-    (λ t e. apart_false (begins hints one t) (begins hints other t) (all (λ u. apart (begins hints one u) (begins hints other u)) c.1 t) e),
-    (λ x t e f. apart_false (holds (λ y. follows y t) (nothing hints other)) (begins hints one t)
-        (all (λ u. apart (holds (λ y. follows y u) (nothing hints other)) (begins hints one u)) c.2 t) (rw e f)),
+    (λ t e. apart_false (begins lookahead one t) (begins lookahead other t) (all (λ u. apart (begins lookahead one u) (begins lookahead other u)) c.1 t) e),
+    (λ x t e f. apart_false (holds (λ y. follows y t) (nothing lookahead other)) (begins lookahead one t)
+        (all (λ u. apart (holds (λ y. follows y u) (nothing lookahead other)) (begins lookahead one u)) c.2 t) (rw e f)),
     decided follows one c.3,
     decided follows other c.4,
   )
@@ -83,59 +83,59 @@ module _ {T N : Type 0} {V : N → Type 0} (hints : Hints T N V) (All : (T → B
   abbrev pub Orders : {A : Type 0} → ℕ → Parts T N V A → Type 0
   Orders rank (Return x) = Unit {0}
   Orders rank (Take test rest) = Unit {0}
-  Orders rank (Call n rest) = (ltb (hints.rank n) rank ≡ true) × ((a : V n) → hints.empty n ≡ Some a → Orders rank (rest a))
+  Orders rank (Call n rest) = (ltb (lookahead.rank n) rank ≡ true) × ((a : V n) → lookahead.nullable n ≡ Some a → Orders rank (rest a))
   Orders rank (Either one other) = Orders rank one × Orders rank other
 
-  pub ranked : {A : Type 0} (rank : ℕ) → (g : Parts T N V A) → Orders rank g → Ranked hints rank g
+  pub ranked : {A : Type 0} (rank : ℕ) → (g : Parts T N V A) → Orders rank g → Ranked lookahead rank g
   ranked rank (Return x) c = tt
   ranked rank (Take test rest) c = tt
-  ranked rank (Call n rest) c = (ltb-true (hints.rank n) rank c.0, (λ a e. ranked rank (rest a) (c.1 a e)))
+  ranked rank (Call n rest) c = (ltb-true (lookahead.rank n) rank c.0, (λ a e. ranked rank (rest a) (c.1 a e)))
   ranked rank (Either one other) c = (ranked rank one c.0, ranked rank other c.1)
 
   abbrev pub ChecksProduction : (n : N) → Production T N V (V n) → Type 0
   ChecksProduction n (Plain parts) =
-      All (λ t. alike (hints.first n t) (begins hints parts t))
-      × (hints.empty n ≡ nothing hints parts)
-      × Orders (hints.rank n) parts
-      × Checks (hints.may n) parts
+      All (λ t. alike (lookahead.first n t) (begins lookahead parts t))
+      × (lookahead.nullable n ≡ nothing lookahead parts)
+      × Orders (lookahead.rank n) parts
+      × Checks (lookahead.follow n) parts
   ChecksProduction n (Node parts) =
-      All (λ t. alike (hints.first n t) (begins hints parts t))
-      × (hints.empty n ≡ None)
-      × (nothing hints parts ≡ None)
-      × Orders (hints.rank n) parts
-      × Checks (hints.may n) parts
+      All (λ t. alike (lookahead.first n t) (begins lookahead parts t))
+      × (lookahead.nullable n ≡ None)
+      × (nothing lookahead parts ≡ None)
+      × Orders (lookahead.rank n) parts
+      × Checks (lookahead.follow n) parts
   ChecksProduction n (Chain start step) =
-      All (λ t. alike (hints.first n t) (begins hints start t || holds (λ x. begins hints (step x) t) (nothing hints start)))
-      × (hints.empty n ≡ nothing hints start)
-      × Orders (hints.rank n) start
-      × Checks (λ x t. hints.may n x t || begins hints (step x) t) start
-      × ((y : V n) → nothing hints (step y) ≡ None)
-      × ((y : V n) → Orders (hints.rank n) (step y))
-      × ((y : V n) → Checks (λ x t. hints.may n x t || begins hints (step x) t) (step y))
-      × ((x : V n) → All (λ t. apart (hints.may n x t) (begins hints (step x) t)))
+      All (λ t. alike (lookahead.first n t) (begins lookahead start t || holds (λ x. begins lookahead (step x) t) (nothing lookahead start)))
+      × (lookahead.nullable n ≡ nothing lookahead start)
+      × Orders (lookahead.rank n) start
+      × Checks (λ x t. lookahead.follow n x t || begins lookahead (step x) t) start
+      × ((y : V n) → nothing lookahead (step y) ≡ None)
+      × ((y : V n) → Orders (lookahead.rank n) (step y))
+      × ((y : V n) → Checks (λ x t. lookahead.follow n x t || begins lookahead (step x) t) (step y))
+      × ((x : V n) → All (λ t. apart (lookahead.follow n x t) (begins lookahead (step x) t)))
 
-  pub fits : (n : N) (p : Production T N V (V n)) → ChecksProduction n p → FitsProduction hints n p
+  pub fits : (n : N) (p : Production T N V (V n)) → ChecksProduction n p → IsLL1Production lookahead n p
   fits n (Plain parts) c = (
-    (λ t. alike_same (hints.first n t) (begins hints parts t) (all (λ u. alike (hints.first n u) (begins hints parts u)) c.0 t)),
+    (λ t. alike_same (lookahead.first n t) (begins lookahead parts t) (all (λ u. alike (lookahead.first n u) (begins lookahead parts u)) c.0 t)),
     c.1,
-    ranked (hints.rank n) parts c.2,
-    decided (hints.may n) parts c.3,
+    ranked (lookahead.rank n) parts c.2,
+    decided (lookahead.follow n) parts c.3,
   )
   fits n (Node parts) c = (
-    (λ t. alike_same (hints.first n t) (begins hints parts t) (all (λ u. alike (hints.first n u) (begins hints parts u)) c.0 t)),
+    (λ t. alike_same (lookahead.first n t) (begins lookahead parts t) (all (λ u. alike (lookahead.first n u) (begins lookahead parts u)) c.0 t)),
     c.1,
     c.2,
-    ranked (hints.rank n) parts c.3,
-    decided (hints.may n) parts c.4,
+    ranked (lookahead.rank n) parts c.3,
+    decided (lookahead.follow n) parts c.4,
   )
   fits n (Chain start step) c = (
-    (λ t. alike_same (hints.first n t) (begins hints start t || holds (λ x. begins hints (step x) t) (nothing hints start))
-        (all (λ u. alike (hints.first n u) (begins hints start u || holds (λ x. begins hints (step x) u) (nothing hints start))) c.0 t)),
+    (λ t. alike_same (lookahead.first n t) (begins lookahead start t || holds (λ x. begins lookahead (step x) t) (nothing lookahead start))
+        (all (λ u. alike (lookahead.first n u) (begins lookahead start u || holds (λ x. begins lookahead (step x) u) (nothing lookahead start))) c.0 t)),
     c.1,
-    ranked (hints.rank n) start c.2,
-    decided (λ x t. hints.may n x t || begins hints (step x) t) start c.3,
+    ranked (lookahead.rank n) start c.2,
+    decided (λ x t. lookahead.follow n x t || begins lookahead (step x) t) start c.3,
     c.4,
-    (λ y. ranked (hints.rank n) (step y) (c.5 y)),
-    (λ y. decided (λ x t. hints.may n x t || begins hints (step x) t) (step y) (c.6 y)),
-    (λ x t e. apart_false (hints.may n x t) (begins hints (step x) t) (all (λ u. apart (hints.may n x u) (begins hints (step x) u)) (c.7 x) t) e),
+    (λ y. ranked (lookahead.rank n) (step y) (c.5 y)),
+    (λ y. decided (λ x t. lookahead.follow n x t || begins lookahead (step x) t) (step y) (c.6 y)),
+    (λ x t e. apart_false (lookahead.follow n x t) (begins lookahead (step x) t) (all (λ u. apart (lookahead.follow n x u) (begins lookahead (step x) u)) (c.7 x) t) e),
   )

@@ -2,7 +2,7 @@ pub mod Lists
 pub mod Up
 pub mod Closed
 pub mod First
-pub mod Told
+pub mod Answered
 pub mod Step
 pub mod Hit
 pub mod Short

@@ -1,36 +1,36 @@
 -- One token decides in the small grammar.
 use Rattle.std.proofs.Common.{◌≡◌, ◌<◌, true, false, ◌||◌, refl, lit<}
-use Rattle.grammar.specs.Fits.{FitsProduction, IsFit}
-use Rattle.grammar.specs.Example.{Sign, Digit, Minus, Open, Close, Semicolon, Rule, Sums, Sum, Atom, is_digit, is_minus, is_open, is_close, is_semicolon, rule, rank_of_rule, sums, sums_hints}
+use Rattle.grammar.specs.LL1.{IsLL1Production, IsLL1}
+use Rattle.grammar.specs.Example.{Terminal, Digit, Minus, Open, Close, Semicolon, Rule, Sums, Additive, Atom, is_digit, is_minus, is_open, is_close, is_semicolon, rule, rank_of_rule, sums, sums_lookahead}
 
-first_at : (t : Sign) → (is_digit t || is_open t) ≡ (((is_digit t || is_open t) || false) || false)
+first_at : (t : Terminal) → (is_digit t || is_open t) ≡ (((is_digit t || is_open t) || false) || false)
 first_at Digit = refl
 first_at Open = refl
 first_at _ = refl
 
-semicolon_follows : (t : Sign) → is_semicolon t ≡ true → (is_semicolon t || is_close t) ≡ true
+semicolon_follows : (t : Terminal) → is_semicolon t ≡ true → (is_semicolon t || is_close t) ≡ true
 semicolon_follows Semicolon e = refl
 semicolon_follows _ e = cc
 
-close_follows : (t : Sign) → is_close t ≡ true → (is_semicolon t || is_close t) ≡ true
+close_follows : (t : Terminal) → is_close t ≡ true → (is_semicolon t || is_close t) ≡ true
 close_follows Close e = refl
 close_follows _ e = cc
 
-after_atom : (t : Sign) → ((is_semicolon t || is_close t) || is_minus t) ≡ true → (is_minus t || (is_semicolon t || is_close t)) ≡ true
+after_atom : (t : Terminal) → ((is_semicolon t || is_close t) || is_minus t) ≡ true → (is_minus t || (is_semicolon t || is_close t)) ≡ true
 after_atom Minus e = refl
 after_atom Close e = refl
 after_atom Semicolon e = refl
 after_atom _ e = cc
 
-no_step : (t : Sign) → (is_semicolon t || is_close t) ≡ true → is_minus t ≡ false
+no_step : (t : Terminal) → (is_semicolon t || is_close t) ≡ true → is_minus t ≡ false
 no_step Minus e = cc
 no_step _ e = refl
 
-one_alternative : (t : Sign) → is_digit t ≡ true → is_open t ≡ false
+one_alternative : (t : Terminal) → is_digit t ≡ true → is_open t ≡ false
 one_alternative Open e = cc
 one_alternative _ e = refl
 
-rule_fits : (n : Rule) → FitsProduction sums_hints n (rule n)
+rule_fits : (n : Rule) → IsLL1Production sums_lookahead n (rule n)
 rule_fits Sums = (
   (λ t. first_at t),
   refl,
@@ -43,7 +43,7 @@ rule_fits Sums = (
     tt,
   ),
 )
-rule_fits Sum = (
+rule_fits Additive = (
   (λ t. first_at t),
   refl,
   (lit< tt, (λ a e. tt)),
@@ -69,8 +69,8 @@ rule_fits Atom = (
 
 ranks : (n : Rule) → rank_of_rule n < 3
 ranks Sums = lit< tt
-ranks Sum = lit< tt
+ranks Additive = lit< tt
 ranks Atom = lit< tt
 
-pub sums_fits : IsFit sums sums_hints
+pub sums_fits : IsLL1 sums sums_lookahead
 sums_fits n = (ranks n, rule_fits n)

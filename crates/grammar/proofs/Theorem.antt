@@ -1,13 +1,13 @@
--- The theorem, once for every grammar that its hints fit: what the parser gives is a reading, every reading
+-- The theorem, once for every grammar that its lookahead fit: what the parser gives is a reading, every reading
 -- is given, and what it refuses is exactly the refused token.
 use Rattle.std.proofs.Common.{◌≡◌, ℕ, ◌≤◌, max, Bool, true, false, List, [], ◌∷◌, ◌++◌, ◌⊎◌, ◌↔◌, inl, inr, refl, sym, ap, ap₂, ◌∙◌, subst, append_assoc, append-nil, arith}
 use Rattle.grammar.specs.Parts.{Grammar}
 use Rattle.grammar.specs.Reading.{IsRead, IsViable, IsRefused, HasFault}
-use Rattle.grammar.specs.Parser.{Hints, Outcome, Got, Bad, New, finish, parse, parse_all}
-use Rattle.grammar.specs.Fits.{IsFit}
+use Rattle.grammar.specs.Parser.{Lookahead, Outcome, Got, Bad, New, finish, parse, parse_all}
+use Rattle.grammar.specs.LL1.{IsLL1}
 use Rattle.grammar.proofs.Lists.{split_append}
 use Rattle.grammar.proofs.Closed.{is_read_up, read_viable}
-use Rattle.grammar.proofs.Told.{NameTold, TooDeep}
+use Rattle.grammar.proofs.Answered.{NameAnswered, TooDeep}
 use Rattle.grammar.proofs.Step.{told}
 use Rattle.grammar.proofs.Hit.{Hits, hit}
 use Rattle.grammar.proofs.Prefix.{viable_prefix}
@@ -58,20 +58,20 @@ module _ (gr : Grammar) where
   Says r n ts (Got x d rest) = (rest ≡ []) × IsRead gr d n ts x × (d ≤ r)
   Says r n ts (Bad deep rest) = HasFault gr r n ts deep rest
 
-module _ (gr : Grammar) (hints : Hints gr.Token gr.Name gr.Value) (fits : IsFit gr hints) where
+module _ (gr : Grammar) (lookahead : Lookahead gr.Token gr.Name gr.Value) (fits : IsLL1 gr lookahead) where
   -- whatever has begun to be read does so up to where the parser stops, or it stopped for the depth
   beyond : (q r : ℕ) (n : gr.Name) (ts c : List gr.Token) (t : gr.Token) (s : List gr.Token) → ts ≡ c ++ (t ∷ s)
-      → IsViable gr q n (c ++ (t ∷ [])) → (o : Outcome gr.Token (gr.Value n)) → parse gr hints r n New ts ≡ o → Passes q r s o
+      → IsViable gr q n (c ++ (t ∷ [])) → (o : Outcome gr.Token (gr.Value n)) → parse gr lookahead r n New ts ≡ o → Passes q r s o
   beyond q r n ts c t s e v o f =
       let same : (c ++ (t ∷ [])) ++ s ≡ ts = append_assoc c (t ∷ []) s ∙ sym e in
       subst (λ p. Passes q r s p) f
-      (subst (λ us. Passes q r s (parse gr hints r n New us)) same (pass gr hints fits v.0 q r n (c ++ (t ∷ [])) s v.1))
+      (subst (λ us. Passes q r s (parse gr lookahead r n New us)) same (pass gr lookahead fits v.0 q r n (c ++ (t ∷ [])) s v.1))
 
   -- whatever is read is found at its end, or it stopped for the depth
   found : (q r : ℕ) (n : gr.Name) (ts c : List gr.Token) (x : gr.Value n) → ts ≡ c ++ []
-      → IsRead gr q n c x → (o : Outcome gr.Token (gr.Value n)) → parse gr hints r n New ts ≡ o → Hits q r x [] o
+      → IsRead gr q n c x → (o : Outcome gr.Token (gr.Value n)) → parse gr lookahead r n New ts ≡ o → Hits q r x [] o
   found q r n ts c x e h o f =
-      subst (λ p. Hits q r x [] p) f (subst (λ us. Hits q r x [] (parse gr hints r n New us)) (sym e) (hit gr hints fits h.0 q r n c x [] h.1 tt))
+      subst (λ p. Hits q r x [] p) f (subst (λ us. Hits q r x [] (parse gr lookahead r n New us)) (sym e) (hit gr lookahead fits h.0 q r n c x [] h.1 tt))
 
   no_end : (n : gr.Name) (q r : ℕ) (x : gr.Value n) (d : ℕ) (t : gr.Token) (s : List gr.Token) → Passes q r s (Got x d (t ∷ s)) → ⊥
   no_end n q r x d t s (inl l) = omega arith
@@ -105,8 +105,8 @@ module _ (gr : Grammar) (hints : Hints gr.Token gr.Name gr.Value) (fits : IsFit 
   not_deep n true c h e = absurd h
   not_deep n false c h e = let clash : ⊥ = cc in absurd clash
 
-  said : (r : ℕ) (n : gr.Name) (ts : List gr.Token) (o : Outcome gr.Token (gr.Value n)) → parse gr hints r n New ts ≡ o
-      → NameTold gr r n ts o → Says gr r n ts (finish o)
+  said : (r : ℕ) (n : gr.Name) (ts : List gr.Token) (o : Outcome gr.Token (gr.Value n)) → parse gr lookahead r n New ts ≡ o
+      → NameAnswered gr r n ts o → Says gr r n ts (finish o)
   said r n ts (Got x d []) e (c, q, w, l) = (refl, subst (λ us. IsRead gr d n us x) (sym (q ∙ append-nil c)) w, l)
   said r n ts (Got x d (t ∷ s)) e (c, q, w, l) = (
     c,
@@ -146,32 +146,32 @@ module _ (gr : Grammar) (hints : Hints gr.Token gr.Name gr.Value) (fits : IsFit 
     (λ one other f. viable_prefix gr r n one other (subst (λ us. IsViable gr r n us) f v)),
   )
 
-  pub says : (r : ℕ) (n : gr.Name) (ts : List gr.Token) → Says gr r n ts (parse_all gr hints r n ts)
-  says r n ts = said r n ts (parse gr hints r n New ts) refl (told gr hints fits r n New ts)
+  pub says : (r : ℕ) (n : gr.Name) (ts : List gr.Token) → Says gr r n ts (parse_all gr lookahead r n ts)
+  says r n ts = said r n ts (parse gr lookahead r n New ts) refl (told gr lookahead fits r n New ts)
 
   -- What the parser gives is a reading of all the tokens, of exactly the depth that it tells.
   pub sound : (r : ℕ) (n : gr.Name) (ts : List gr.Token) (x : gr.Value n) (d : ℕ) (rest : List gr.Token)
-      → parse_all gr hints r n ts ≡ Got x d rest → (rest ≡ []) × IsRead gr d n ts x × (d ≤ r)
+      → parse_all gr lookahead r n ts ≡ Got x d rest → (rest ≡ []) × IsRead gr d n ts x × (d ≤ r)
   sound r n ts x d rest e = subst (λ o. Says gr r n ts o) e (says r n ts)
 
   -- Every reading within the room is given, with no greater depth.
   pub complete : (q r : ℕ) (n : gr.Name) (ts : List gr.Token) (x : gr.Value n) → IsRead gr q n ts x → q ≤ r
-      → (d : ℕ) × (d ≤ q) × (parse_all gr hints r n ts ≡ Got x d [])
-  complete q r n ts x h l = go (found q r n ts ts x (sym (append-nil ts)) h (parse gr hints r n New ts) refl)
+      → (d : ℕ) × (d ≤ q) × (parse_all gr lookahead r n ts ≡ Got x d [])
+  complete q r n ts x h l = go (found q r n ts ts x (sym (append-nil ts)) h (parse gr lookahead r n New ts) refl)
     where
-      go : Hits q r x [] (parse gr hints r n New ts) → (d : ℕ) × (d ≤ q) × (parse_all gr hints r n ts ≡ Got x d [])
+      go : Hits q r x [] (parse gr lookahead r n New ts) → (d : ℕ) × (d ≤ q) × (parse_all gr lookahead r n ts ≡ Got x d [])
       go (inl (d, m, e)) = (d, m, ap (λ o. finish o) e)
       go (inr (m, s, e)) = absurd (omega arith)
 
   -- Where it refuses, there is the fault.
   pub fault : (r : ℕ) (n : gr.Name) (ts : List gr.Token) (deep : Bool) (rest : List gr.Token)
-      → parse_all gr hints r n ts ≡ Bad deep rest → HasFault gr r n ts deep rest
+      → parse_all gr lookahead r n ts ≡ Bad deep rest → HasFault gr r n ts deep rest
   fault r n ts deep rest e = subst (λ o. Says gr r n ts o) e (says r n ts)
 
   -- Where there is a fault, it refuses there.
   pub only_fault : (r : ℕ) (n : gr.Name) (ts : List gr.Token) (deep : Bool) (rest : List gr.Token)
-      → HasFault gr r n ts deep rest → parse_all gr hints r n ts ≡ Bad deep rest
-  only_fault r n ts deep rest h = go (parse_all gr hints r n ts) (says r n ts)
+      → HasFault gr r n ts deep rest → parse_all gr lookahead r n ts ≡ Bad deep rest
+  only_fault r n ts deep rest h = go (parse_all gr lookahead r n ts) (says r n ts)
     where
       read_whole : (x : gr.Value n) (d : ℕ) (rest : List gr.Token) → IsRead gr d n ts x → d ≤ r → HasFault gr r n ts deep rest → ⊥
       read_whole x d [] w l (c, q, f, pre) =
@@ -194,10 +194,10 @@ module _ (gr : Grammar) (hints : Hints gr.Token gr.Name gr.Value) (fits : IsFit 
       same_value x y e.0 f.0 [] (sym e.2 ∙ f.2)
 
   -- At the end of the tokens no greater depth would do: a token more is wanted, and not more room.
-  pub end_not_deep : (r : ℕ) (n : gr.Name) (ts : List gr.Token) (deep : Bool) → parse_all gr hints r n ts ≡ Bad deep [] → deep ≡ false
-  end_not_deep r n ts deep e = go (parse gr hints r n New ts) (told gr hints fits r n New ts) e
+  pub end_not_deep : (r : ℕ) (n : gr.Name) (ts : List gr.Token) (deep : Bool) → parse_all gr lookahead r n ts ≡ Bad deep [] → deep ≡ false
+  end_not_deep r n ts deep e = go (parse gr lookahead r n New ts) (told gr lookahead fits r n New ts) e
     where
-      go : (o : Outcome gr.Token (gr.Value n)) → NameTold gr r n ts o → finish o ≡ Bad deep [] → deep ≡ false
+      go : (o : Outcome gr.Token (gr.Value n)) → NameAnswered gr r n ts o → finish o ≡ Bad deep [] → deep ≡ false
       go (Got x d []) h f = cc
       go (Got x d (t ∷ s)) h f = cc
       go (Bad true []) (c, q, v, l) f = absurd l

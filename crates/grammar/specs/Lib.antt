@@ -1,5 +1,5 @@
 pub mod Parts
 pub mod Reading
 pub mod Parser
-pub mod Fits
+pub mod LL1
 pub mod Example

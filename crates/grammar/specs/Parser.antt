@@ -1,15 +1,15 @@
 -- The parser on lists: it looks one token ahead, and never goes back. What it needs beside the grammar are
--- hints. That it is right wherever the hints fit the grammar is proved (Fits).
+-- lookahead. That it is right wherever the lookahead fit the grammar is proved (Fits).
 use Rattle.std.specs.Prelude.{ℕ, zero, suc, ◌+◌, ◌*◌, max, Bool, true, false, cond, ◌||◌, leb, List, [], ◌∷◌, length, Option, Some, None}
 use Rattle.grammar.specs.Parts.{Parts, Return, Take, Call, Either, Production, Plain, Node, Chain, Grammar}
 
-pub record Hints (T N : Type 0) (V : N → Type 0) : Type 0 where
+pub record Lookahead (T N : Type 0) (V : N → Type 0) : Type 0 where
   -- a token may begin what the name reads
   pub first : N → T → Bool
   -- what the name reads from no token
-  pub empty : (n : N) → Option (V n)
+  pub nullable : (n : N) → Option (V n)
   -- a token may follow what the name read with this value
-  pub may : (n : N) → V n → T → Bool
+  pub follow : (n : N) → V n → T → Bool
   -- a name that another one may read at its front, before any token, has a smaller rank
   pub rank : N → ℕ
   -- all ranks are below this
@@ -56,19 +56,19 @@ abbrev pub holds : {A : Type 0} → (A → Bool) → Option A → Bool
 holds test (Some x) = test x
 holds test None = false
 
-module _ {T N : Type 0} {V : N → Type 0} (hints : Hints T N V) where
+module _ {T N : Type 0} {V : N → Type 0} (lookahead : Lookahead T N V) where
   -- what the parts read from no token
   abbrev pub nothing : {A : Type 0} → Parts T N V A → Option A
   nothing (Return x) = Some x
   nothing (Take test rest) = None
-  nothing (Call n rest) = and_then (hints.empty n) (λ a. nothing (rest a))
+  nothing (Call n rest) = and_then (lookahead.nullable n) (λ a. nothing (rest a))
   nothing (Either one other) = or_else (nothing one) (nothing other)
 
   -- the token may begin what the parts read
   abbrev pub begins : {A : Type 0} → Parts T N V A → T → Bool
   begins (Return x) t = false
   begins (Take test rest) t = test t
-  begins (Call n rest) t = hints.first n t || holds (λ a. begins (rest a) t) (hints.empty n)
+  begins (Call n rest) t = lookahead.first n t || holds (λ a. begins (rest a) t) (lookahead.nullable n)
   begins (Either one other) t = begins one t || begins other t
 
   -- the next token may begin what the parts read
@@ -121,12 +121,12 @@ abbrev pub rank_of : ℕ → {A : Type 0} → Entry A → ℕ
 rank_of rank New = 2 * rank + 1
 rank_of rank (Past x depth) = 2 * rank
 
-module _ (grammar : Grammar) (hints : Hints grammar.Token grammar.Name grammar.Value) where
+module _ (grammar : Grammar) (lookahead : Lookahead grammar.Token grammar.Name grammar.Value) where
   -- one step of the parser, where `call` does the rest
   abbrev pub step : (ℕ → (n : grammar.Name) → Entry (grammar.Value n) → List grammar.Token → Outcome grammar.Token (grammar.Value n))
       → ℕ → (n : grammar.Name) → Entry (grammar.Value n) → List grammar.Token → Outcome grammar.Token (grammar.Value n)
   step call room n entry tokens =
-      proceed hints (λ within m some. call within m New some) (λ x depth left. call room n (Past x depth) left)
+      proceed lookahead (λ within m some. call within m New some) (λ x depth left. call room n (Past x depth) left)
       (grammar.production n) room entry tokens
 
   -- at most so many steps inside one another
@@ -137,7 +137,7 @@ module _ (grammar : Grammar) (hints : Hints grammar.Token grammar.Name grammar.V
 
   -- enough steps for all of the tokens
   abbrev pub steps_for : (n : grammar.Name) → Entry (grammar.Value n) → List grammar.Token → ℕ
-  steps_for n entry tokens = suc (2 * hints.ranks * length tokens + rank_of (hints.rank n) entry)
+  steps_for n entry tokens = suc (2 * lookahead.ranks * length tokens + rank_of (lookahead.rank n) entry)
 
   -- What a name reads at the front of the tokens, within a room. It takes its steps without end: the
   -- number of them is only why this is defined (proofs/Step).
@@ -151,6 +151,6 @@ finish (Got x depth (t ∷ left)) = Bad false (t ∷ left)
 finish (Bad deep left) = Bad deep left
 
 -- The name reads all of the tokens, within a room.
-abbrev pub parse_all : (grammar : Grammar) (hints : Hints grammar.Token grammar.Name grammar.Value)
+abbrev pub parse_all : (grammar : Grammar) (lookahead : Lookahead grammar.Token grammar.Name grammar.Value)
     → ℕ → (n : grammar.Name) → List grammar.Token → Outcome grammar.Token (grammar.Value n)
-parse_all grammar hints depth n tokens = finish (parse grammar hints depth n New tokens)
+parse_all grammar lookahead depth n tokens = finish (parse grammar lookahead depth n New tokens)

@@ -3,7 +3,7 @@
 ghost use Rattle.std.specs.Prelude.{◌≡◌, ◌≤◌, ℕ, Bool, true, false, List, [], ◌∷◌};
 ghost use Rattle.grammar.specs.Reading.{IsRead, HasFault};
 ghost use Rattle.grammar.specs.Parser.{Got, Bad, parse_all};
-ghost use Rattle.grammar.specs.Example.{sums, sums_hints, Rule, Sums as AllSums, TreeOf, Sign, Digit, Minus, Open, Close, Semicolon, Number, Difference};
+ghost use Rattle.grammar.specs.Example.{sums, sums_lookahead, Rule, Sums as AllSums, TreeOf, Terminal, Digit, Minus, Open, Close, Semicolon, Number, Difference};
 
 use crate::{Language, parser_is_exact};
 
@@ -13,15 +13,15 @@ pub struct Sums;
 impl Language for Sums {
     ghost grammar = { sums };
 
-    ghost hints = { sums_hints };
+    ghost lookahead = { sums_lookahead };
 }
 
 /// One token decides in the small language, so its readings are exactly what its parser gives.
 pub fn sums_are_parsed()
-    ensures given { (depth : ℕ) (n : Rule) (signs : List Sign) (x : TreeOf n) → IsRead sums depth n signs x
-        → (least : ℕ) × (least ≤ depth) × (parse_all sums sums_hints depth n signs ≡ Got x least []) }
-    ensures refused { (depth : ℕ) (n : Rule) (signs : List Sign) (deep : Bool) (rest : List Sign)
-        → parse_all sums sums_hints depth n signs ≡ Bad deep rest → HasFault sums depth n signs deep rest }
+    ensures given { (depth : ℕ) (n : Rule) (terminals : List Terminal) (x : TreeOf n) → IsRead sums depth n terminals x
+        → (least : ℕ) × (least ≤ depth) × (parse_all sums sums_lookahead depth n terminals ≡ Got x least []) }
+    ensures refused { (depth : ℕ) (n : Rule) (terminals : List Terminal) (deep : Bool) (rest : List Terminal)
+        → parse_all sums sums_lookahead depth n terminals ≡ Bad deep rest → HasFault sums depth n terminals deep rest }
 {
     parser_is_exact::<Sums>();
 }

@@ -6,9 +6,6 @@ ghost use Rattle.std.specs.Str.{bytes_eq};
 ghost use Rattle.c_grammar.specs.Expressions.{is_type_name};
 ghost use Rattle.type_names.specs.Names.{kind_in};
 
-#[cfg(test)]
-mod tests;
-
 use indexmap::IndexMap;
 use std::alloc::{AllocError, Global};
 use std::marker::Model;

@@ -1,4 +1,4 @@
--- The hints fit, and the rest is the theorem's.
+-- The lookahead fit, and the rest is the theorem's.
 use Rattle.c_grammar.specs.Rules.{Unit as WholeFile}
 use Rattle.c_grammar.proofs.Fit.{c_grammar_fits}
 use Rattle.c_grammar.proofs.files_are_parsed.Goals as goal

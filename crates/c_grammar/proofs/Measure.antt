@@ -4,7 +4,7 @@ use Rattle.c_tree.specs.Depth.{node, deepest, expr_depth, spec_depth, declarator
 use Rattle.c_tree.specs.declared.expressions.Spec.{Spec}
 use Rattle.c_grammar.specs.Rules.{Rule, Expression, Assignment, Conditional, Prefix, Arguments, MoreArguments, Binary, Operand, Postfix, Primary, Texts, Specs, Members, MemberDeclarators, Enumerators, TypeName, ClangWords, GnuWords, Effect, Attributes, Declarator, Direct, Pointer, Group, Qualifiers, Params, ParamList, Initializer, Braces, Initializers, InitDeclarators, MoreDeclarators, Declaration, MaybeExpression, Statement, Block, BlockItems, External, Externals, Unit as WholeFile, ValueOf}
 use Rattle.c_grammar.specs.Grammar.{production}
-use Rattle.c_depth.proofs.Measured.{ProductionMeasured}
+use Rattle.c_grammar.proofs.Measured.{ProductionMeasured}
 
 abbrev pub all_specs : List Spec → ℕ
 all_specs specs = deepest (map spec_depth specs)
@@ -21,7 +21,7 @@ measure (Operand f s) x = expr_depth x
 measure (Postfix f s) x = expr_depth x
 measure (Primary f s) x = expr_depth x
 measure Texts x = 0
-measure (Specs home s state) x = all_specs x.specs
+measure (Specs context s state) x = all_specs x.specs
 measure (Members s) x = deepest (map member_depth x)
 measure (MemberDeclarators s) x = deepest (map declarator_depth x)
 measure (Enumerators s) x = deepest (map enumerator_depth x)
@@ -30,13 +30,13 @@ measure ClangWords x = 0
 measure GnuWords x = 0
 measure (Effect spelling) x = 0
 measure (Attributes s) x = 0
-measure (Declarator s naming b) x = declarator_depth x.tree
-measure (Direct s naming b) x = declarator_depth x.tree
-measure (Pointer s naming) x = declarator_depth x.tree
-measure (Group s naming) x = declarator_depth x.tree
+measure (Declarator s kind b) x = declarator_depth x.tree
+measure (Direct s kind b) x = declarator_depth x.tree
+measure (Pointer s kind) x = declarator_depth x.tree
+measure (Group s kind) x = declarator_depth x.tree
 measure Qualifiers x = 0
 measure (Params s) x = deepest (map param_depth x.params)
-measure (ParamList home s before) x = deepest (map param_depth x.params)
+measure (ParamList context s before) x = deepest (map param_depth x.params)
 measure (Initializer s) x = init_depth x
 measure (Braces s) x = init_depth x
 measure (Initializers s) x = deepest (map init_depth x)
@@ -53,7 +53,7 @@ measure WholeFile x = tree_depth x
 
 -- The specifiers that a rule is told of count in what it reads, and it doesn't read them: nothing is deep in them.
 abbrev pub Fine : Rule → Type 0
-Fine (ParamList home s before) = all_specs before ≡ 0
+Fine (ParamList context s before) = all_specs before ≡ 0
 Fine _ = Unit {0}
 
 -- what the rule reads is as deep as the nodes that it counts

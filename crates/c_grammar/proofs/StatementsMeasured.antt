@@ -9,8 +9,8 @@ use Rattle.c_grammar.specs.Lexemes.{place}
 use Rattle.c_grammar.specs.Trees.{has_typedef}
 use Rattle.c_grammar.specs.Rules.{Scope, DeclaratorRead, DeclaratorsRead, Initializer, Braces, Initializers, InitDeclarators, MoreDeclarators, Declaration, MaybeExpression, Statement, Block, BlockItems, External, Externals, Unit as WholeFile}
 use Rattle.c_grammar.specs.Statements.{behind_declarator, declare, declared, as_external, if_rest, for_rest}
-use Rattle.c_depth.proofs.Measured.{PartsMeasured}
-use Rattle.c_depth.proofs.Measure.{measure, Fine, Counted}
+use Rattle.c_grammar.proofs.Measured.{PartsMeasured}
+use Rattle.c_grammar.proofs.Measure.{measure, Fine, Counted}
 
 pub initializer_counted : (s : Scope) → Counted (Initializer s)
 initializer_counted s = ((tt, λ a. omega arith), (tt, λ a. depth-Value _ ∙ omega arith))

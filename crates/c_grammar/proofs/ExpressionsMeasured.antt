@@ -1,8 +1,12 @@
 -- Expressions are as deep as the nodes that their rules count.
 use Rattle.std.proofs.Common.{refl, ◌∙◌, arith}
 use Rattle.c_tree.proofs.Equations.{depth-Name, depth-Number, depth-Character, depth-Text, depth-Parenthesised, depth-Index, depth-Call, depth-Access, depth-Step, depth-Unary, depth-SizeofType, depth-Cast, depth-Binary, depth-Conditional, depth-Assignment}
-use Rattle.c_grammar.specs.Rules.{Scope, Front, CastFront, UnaryFront, BareFront, OpenedFront, Level, OrOr, Expression, Assignment, Conditional, Prefix, Arguments, MoreArguments, Binary, Operand, Postfix, Primary, Texts}
-use Rattle.c_depth.proofs.Measure.{Counted}
+use Rattle.c_grammar.specs.declared.state.Front.{Front}
+use Rattle.c_grammar.specs.declared.state.Precedence.{Precedence}
+use Rattle.c_grammar.specs.declared.state.Front.TheVariants.{Cast as CastFront, Unary as UnaryFront, Bare as BareFront, Opened as OpenedFront}
+use Rattle.c_grammar.specs.declared.state.Precedence.TheVariants.{LogicalOr}
+use Rattle.c_grammar.specs.Rules.{Scope, Expression, Assignment, Conditional, Prefix, Arguments, MoreArguments, Binary, Operand, Postfix, Primary, Texts}
+use Rattle.c_grammar.proofs.Measure.{Counted}
 
 pub expression_counted : (s : Scope) → Counted (Expression s)
 expression_counted s = ((tt, λ a. omega arith), (λ y t. (tt, λ b. depth-Binary _ _ _ _ _)))
@@ -13,8 +17,8 @@ assignment_counted s = ((tt, λ a. omega arith), (λ y t. (tt, λ b. depth-Assig
 pub conditional_counted : (s : Scope) → Counted (Conditional s)
 conditional_counted s = ((tt, λ a. omega arith), (λ y t. (tt, λ b u. (tt, λ c. depth-Conditional _ _ _ _ ∙ omega arith))))
 
-pub binary_counted : (l : Level) (s : Scope) → Counted (Binary l s)
-binary_counted OrOr s = ((tt, λ a. omega arith), (λ y t. (tt, λ b. depth-Binary _ _ _ _ _)))
+pub binary_counted : (l : Precedence) (s : Scope) → Counted (Binary l s)
+binary_counted LogicalOr s = ((tt, λ a. omega arith), (λ y t. (tt, λ b. depth-Binary _ _ _ _ _)))
 binary_counted _ s = ((tt, λ a. omega arith), (λ y t. (tt, λ b. depth-Binary _ _ _ _ _)))
 
 pub operand_counted : (f : Front) (s : Scope) → Counted (Operand f s)

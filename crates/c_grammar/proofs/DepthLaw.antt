@@ -1,13 +1,13 @@
 -- Each rule counts the nodes of what it reads, and the rest holds of every grammar whose rules do.
 use Rattle.c_grammar.specs.Rules.{Expression, Assignment, Conditional, Prefix, Arguments, MoreArguments, Binary, Operand, Postfix, Primary, Texts, Specs, Members, MemberDeclarators, Enumerators, TypeName, ClangWords, GnuWords, Effect, Attributes, Declarator, Direct, Pointer, Group, Qualifiers, Params, ParamList, Initializer, Braces, Initializers, InitDeclarators, MoreDeclarators, Declaration, MaybeExpression, Statement, Block, BlockItems, External, Externals, Unit as WholeFile}
 use Rattle.c_grammar.specs.Grammar.{c_grammar}
-use Rattle.c_depth.specs.Deep.{IsDepthOfTree}
-use Rattle.c_depth.proofs.Measured.{IsMeasured, reads_within}
-use Rattle.c_depth.proofs.Measure.{measure, Fine}
-use Rattle.c_depth.proofs.Expressions.{expression_counted, assignment_counted, conditional_counted, prefix_counted, arguments_counted, more_arguments_counted, binary_counted, operand_counted, postfix_counted, primary_counted, texts_counted}
-use Rattle.c_depth.proofs.Specifiers.{specs_counted, members_counted, member_declarators_counted, enumerators_counted, type_name_counted, clang_words_counted, gnu_words_counted, effect_counted, attributes_counted}
-use Rattle.c_depth.proofs.Declarators.{declarator_counted, direct_counted, pointer_counted, group_counted, qualifiers_counted, params_counted, param_list_counted}
-use Rattle.c_depth.proofs.Statements.{initializer_counted, braces_counted, initializers_counted, init_declarators_counted, more_declarators_counted, declaration_counted, maybe_counted, statement_counted, block_counted, block_items_counted, external_counted, externals_counted, unit_counted}
+use Rattle.c_grammar.specs.Deep.{IsDepthOfTree}
+use Rattle.c_grammar.proofs.Measured.{IsMeasured, reads_within}
+use Rattle.c_grammar.proofs.Measure.{measure, Fine}
+use Rattle.c_grammar.proofs.ExpressionsMeasured.{expression_counted, assignment_counted, conditional_counted, prefix_counted, arguments_counted, more_arguments_counted, binary_counted, operand_counted, postfix_counted, primary_counted, texts_counted}
+use Rattle.c_grammar.proofs.SpecifiersMeasured.{specs_counted, members_counted, member_declarators_counted, enumerators_counted, type_name_counted, clang_words_counted, gnu_words_counted, effect_counted, attributes_counted}
+use Rattle.c_grammar.proofs.DeclaratorsMeasured.{declarator_counted, direct_counted, pointer_counted, group_counted, qualifiers_counted, params_counted, param_list_counted}
+use Rattle.c_grammar.proofs.StatementsMeasured.{initializer_counted, braces_counted, initializers_counted, init_declarators_counted, more_declarators_counted, declaration_counted, maybe_counted, statement_counted, block_counted, block_items_counted, external_counted, externals_counted, unit_counted}
 
 counted : IsMeasured c_grammar measure Fine
 counted (Expression s) f = expression_counted s
@@ -21,7 +21,7 @@ counted (Operand front s) f = operand_counted front s
 counted (Postfix front s) f = postfix_counted front s
 counted (Primary front s) f = primary_counted front s
 counted Texts f = texts_counted
-counted (Specs home s state) f = specs_counted home s state
+counted (Specs context s state) f = specs_counted context s state
 counted (Members s) f = members_counted s
 counted (MemberDeclarators s) f = member_declarators_counted s
 counted (Enumerators s) f = enumerators_counted s
@@ -30,13 +30,13 @@ counted ClangWords f = clang_words_counted
 counted GnuWords f = gnu_words_counted
 counted (Effect spelling) f = effect_counted spelling
 counted (Attributes s) f = attributes_counted s
-counted (Declarator s naming b) f = declarator_counted s naming b
-counted (Direct s naming b) f = direct_counted s naming b
-counted (Pointer s naming) f = pointer_counted s naming
-counted (Group s naming) f = group_counted s naming
+counted (Declarator s kind b) f = declarator_counted s kind b
+counted (Direct s kind b) f = direct_counted s kind b
+counted (Pointer s kind) f = pointer_counted s kind
+counted (Group s kind) f = group_counted s kind
 counted Qualifiers f = qualifiers_counted
 counted (Params s) f = params_counted s
-counted (ParamList home s before) f = param_list_counted home s before f
+counted (ParamList context s before) f = param_list_counted context s before f
 counted (Initializer s) f = initializer_counted s
 counted (Braces s) f = braces_counted s
 counted (Initializers s) f = initializers_counted s
