@@ -4,7 +4,7 @@ use crate::TokenKind;
 
 /// What a piece of a text is spelled as. A text is cut into pieces, each the longest that begins
 /// where the one before it ends.
-#[derive(Clone, Copy, Debug)]
+#[derive(Clone, Copy)]
 pub(crate) enum Form {
     /// One byte of white space.
     White,
@@ -18,7 +18,7 @@ pub(crate) enum Form {
 }
 
 /// What begins none of the other forms.
-#[derive(Clone, Copy, Debug)]
+#[derive(Clone, Copy)]
 pub(crate) enum StrayKind {
     /// A byte that begins no token.
     Byte,
@@ -31,14 +31,14 @@ pub(crate) enum StrayKind {
 }
 
 /// A piece at the front of a text: its form, and how many bytes it has.
-#[derive(Clone, Copy, Debug)]
+#[derive(Clone, Copy)]
 pub(crate) struct Scanned {
     pub form: Form,
     pub length: usize,
 }
 
 /// A fault of the spelling in a piece: its number, and how far from the piece's first byte it stands.
-#[derive(Clone, Copy, Debug)]
+#[derive(Clone, Copy)]
 pub(crate) struct Fault {
     pub number: u8,
     pub offset: usize,

@@ -25,7 +25,7 @@ pub use spelling::tokens;
 pub use value::{character_value, text_values};
 
 /// The kinds of token.
-#[derive(Clone, Copy, Debug, PartialEq, Eq)]
+#[derive(Clone, Copy, PartialEq)]
 pub enum TokenKind {
     /// An identifier that is no keyword (C17 6.4.2).
     Name,
@@ -42,7 +42,7 @@ pub enum TokenKind {
 }
 
 /// A token: its kind, and the byte offsets from 0 of its first byte and of the byte after its last.
-#[derive(Clone, Copy, Debug, PartialEq, Eq)]
+#[derive(Clone, Copy)]
 pub struct Token {
     pub kind: TokenKind,
     pub start: u32,
@@ -50,7 +50,7 @@ pub struct Token {
 }
 
 /// The tokens of a source, in their order.
-#[derive(Debug, Drop)]
+#[derive(Drop)]
 pub struct TokenList {
     tokens: Vec<Token>,
 }
@@ -106,7 +106,7 @@ impl TokenList {
 }
 
 /// Why a text has no tokens.
-#[derive(Clone, Copy, Debug, PartialEq, Eq, Error)]
+#[derive(Clone, Copy, Debug, Error)]
 pub enum TextRefusal {
     /// The first fault of the spelling: its number, and the byte offset from 0 of its place. The numbers are
     /// 1 bad byte, 2 open comment, 3 open string, 4 number out of range, 5 unknown escape, 6 bad directive.
@@ -116,6 +116,3 @@ pub enum TextRefusal {
     #[error("out of memory")]
     NoMemory,
 }
-
-#[cfg(test)]
-mod tests;

@@ -8,7 +8,7 @@ ghost use Rattle.c_text.specs.Numbers.{digit_value, value_in, capped, capped_val
 use crate::bytes::{is_digit, is_hex_digit, is_octal_digit};
 
 /// An integer constant: its value, and whether its type is `unsigned`, else `int`.
-#[derive(Clone, Copy, Debug, PartialEq, Eq)]
+#[derive(Clone, Copy)]
 pub struct Number {
     pub value: u32,
     pub is_unsigned: bool,

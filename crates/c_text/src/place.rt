@@ -4,7 +4,7 @@ ghost use Rattle.std.specs.Prelude.{◌≡◌, ℕ, ◌+◌, ◌<◌, ◌≤◌,
 ghost use Rattle.c_text.specs.Place.{line_column, IsAt};
 
 /// A place of a source with its line and column, for a caller that goes through rising places.
-#[derive(Clone, Copy, Debug, PartialEq, Eq)]
+#[derive(Clone, Copy)]
 pub struct LineCursor {
     /// the byte offset from 0
     pub place: u32,

@@ -1,7 +1,7 @@
 -- How deep a declaration or a statement is, from how deep its parts are.
 use Rattle.std.proofs.Common.{◌≡◌, refl, ap, ℕ, ◌+◌, ◌-◌, ◌^◌, max, min, arith, List, [], ◌∷◌, map, Option, Some, None}
 use denote.Hole.Carrier.{hidden}
-use Rattle.c_tree.specs.Depth.{node, deepest, told, expr_depth, spec_depth, declarator_depth, optional_depth, init_depth, inits_depth, init_declarator_depth, declaration_depth, start_depth, statement_depth, else_depth, item_depth, items_depth, optional_statement_depth, definition_depth, external_depth, tree_depth}
+use Rattle.c_tree.specs.Depth.{node, deepest, saturated, expr_depth, spec_depth, declarator_depth, optional_depth, init_depth, inits_depth, init_declarator_depth, declaration_depth, start_depth, statement_depth, else_depth, item_depth, items_depth, optional_statement_depth, definition_depth, external_depth, tree_depth}
 use Rattle.c_tree.specs.declared.declarations.Decl.{Decl}
 use Rattle.c_tree.specs.declared.declarations.FunctionDefinition.{FunctionDefinition}
 use Rattle.c_tree.specs.declared.declarations.Init.{Init}
@@ -9,26 +9,26 @@ use Rattle.c_tree.specs.declared.declarations.Init.TheBlock.{hidden-the_row-Init
 use Rattle.c_tree.specs.declared.declarations.Init.TheVariants as init
 use Rattle.c_tree.specs.declared.expressions.Expr.{Expr}
 use Rattle.c_tree.specs.declared.statements.BlockItem.{BlockItem}
-use Rattle.c_tree.specs.declared.statements.BlockItem.TheBlock.{hidden-the_row-BlockItem-0, shape-the_row-BlockItem-0, hidden-the_row-Stmt-1, shape-the_row-Stmt-1, back-Stmt-If-3}
+use Rattle.c_tree.specs.declared.statements.BlockItem.TheBlock.{hidden-the_row-BlockItem-1, shape-the_row-BlockItem-1, hidden-the_row-Stmt-0, shape-the_row-Stmt-0, back-Stmt-If-3}
 use Rattle.c_tree.specs.declared.statements.BlockItem.TheVariants as item
 use Rattle.c_tree.specs.declared.statements.ForStart.{ForStart}
 use Rattle.c_tree.specs.declared.statements.Stmt.{Stmt}
 use Rattle.c_tree.specs.declared.statements.Stmt.TheVariants as statement
 use Rattle.c_tree.specs.declared.statements.Tree.{Tree}
-use Rattle.c_tree.proofs.Equations.{told-0, told-1, told-max, told-node}
+use Rattle.c_tree.proofs.Equations.{saturated-0, saturated-1, saturated-max, saturated-node}
 
 inits_row : (is : List Init) → inits_depth (hidden-the_row-Init-0 is) ≡ deepest (map init_depth is)
 unfolding init_depth hidden hidden-the_row-Init-0 shape-the_row-Init-0
 inits_row [] = refl
 inits_row (i ∷ is) = ap (max (init_depth i)) (inits_row is)
 
-items_row : (is : List BlockItem) → items_depth (hidden-the_row-BlockItem-0 is) ≡ deepest (map item_depth is)
-unfolding statement_depth hidden hidden-the_row-BlockItem-0 shape-the_row-BlockItem-0
+items_row : (is : List BlockItem) → items_depth (hidden-the_row-BlockItem-1 is) ≡ deepest (map item_depth is)
+unfolding statement_depth hidden hidden-the_row-BlockItem-1 shape-the_row-BlockItem-1
 items_row [] = refl
 items_row (i ∷ is) = ap (max (item_depth i)) (items_row is)
 
 else_held : (s : Option Stmt) → else_depth (back-Stmt-If-3 s) ≡ optional_statement_depth s
-unfolding statement_depth hidden hidden-the_row-Stmt-1 shape-the_row-Stmt-1
+unfolding statement_depth hidden hidden-the_row-Stmt-0 shape-the_row-Stmt-0
 else_held None = refl
 else_held (Some s) = refl
 
@@ -45,7 +45,7 @@ unfolding declaration_depth
 depth-Decl d = refl
 
 pub depth-Block : (p : ℕ) (is : List BlockItem) → statement_depth (statement.Block p is) ≡ node (deepest (map item_depth is))
-unfolding statement_depth hidden hidden-the_row-BlockItem-0 shape-the_row-BlockItem-0
+unfolding statement_depth hidden hidden-the_row-BlockItem-1 shape-the_row-BlockItem-1
 depth-Block p is = ap node (items_row is)
 
 pub depth-Expression : (p : ℕ) (e : Option Expr) → statement_depth (statement.Expression p e) ≡ node (optional_depth e)
@@ -53,19 +53,19 @@ unfolding statement_depth
 depth-Expression p e = refl
 
 pub depth-If : (p : ℕ) (c : Expr) (s : Stmt) (other : Option Stmt) → statement_depth (statement.If p c s other) ≡ node (max (expr_depth c) (max (statement_depth s) (optional_statement_depth other)))
-unfolding statement_depth hidden hidden-the_row-Stmt-1 shape-the_row-Stmt-1
+unfolding statement_depth hidden hidden-the_row-Stmt-0 shape-the_row-Stmt-0
 depth-If p c s other = ap (λ n. node (max (expr_depth c) (max (statement_depth s) n))) (else_held other)
 
 pub depth-While : (p : ℕ) (c : Expr) (s : Stmt) → statement_depth (statement.While p c s) ≡ node (max (expr_depth c) (statement_depth s))
-unfolding statement_depth hidden hidden-the_row-Stmt-1 shape-the_row-Stmt-1
+unfolding statement_depth hidden hidden-the_row-Stmt-0 shape-the_row-Stmt-0
 depth-While p c s = refl
 
 pub depth-DoWhile : (p : ℕ) (s : Stmt) (c : Expr) → statement_depth (statement.DoWhile p s c) ≡ node (max (statement_depth s) (expr_depth c))
-unfolding statement_depth hidden hidden-the_row-Stmt-1 shape-the_row-Stmt-1
+unfolding statement_depth hidden hidden-the_row-Stmt-0 shape-the_row-Stmt-0
 depth-DoWhile p s c = refl
 
 pub depth-For : (p : ℕ) (first : ForStart) (c next : Option Expr) (s : Stmt) → statement_depth (statement.For p first c next s) ≡ node (max (max (start_depth first) (max (optional_depth c) (optional_depth next))) (statement_depth s))
-unfolding statement_depth hidden hidden-the_row-Stmt-1 shape-the_row-Stmt-1
+unfolding statement_depth hidden hidden-the_row-Stmt-0 shape-the_row-Stmt-0
 depth-For p first c next s = refl
 
 pub depth-Break : (p : ℕ) → statement_depth (statement.Break p) ≡ node 0
@@ -85,7 +85,7 @@ unfolding statement_depth
 depth-Declaration d = refl
 
 pub depth-Statement : (s : Stmt) → item_depth (item.Statement s) ≡ statement_depth s
-unfolding statement_depth
+unfolding statement_depth hidden hidden-the_row-Stmt-0 shape-the_row-Stmt-0
 depth-Statement s = refl
 
 pub depth-Definition : (f : FunctionDefinition) → definition_depth f ≡ node (max (max (deepest (map spec_depth f.specs)) (declarator_depth f.declarator)) (node (deepest (map item_depth f.body))))
@@ -96,10 +96,10 @@ pub depth-Tree : (t : Tree) → tree_depth t ≡ deepest (map external_depth t.e
 unfolding tree_depth
 depth-Tree t = refl
 
--- a node round three parts, where each is told
-pub told-three : (a b d m n r : ℕ) → m ≡ max (told b) (told d) → n ≡ max (told a) m → r ≡ min (n + 1) (2 ^ 32 - 1) →
-    r ≡ told (node (max a (max b d)))
-unfolding told
-told-three a b d m n r is_m is_n is_r = omega arith
+-- a node round three parts, where each is saturated
+pub saturated-three : (a b d m n r : ℕ) → m ≡ max (saturated b) (saturated d) → n ≡ max (saturated a) m → r ≡ min (n + 1) (2 ^ 32 - 1) →
+    r ≡ saturated (node (max a (max b d)))
+unfolding saturated
+saturated-three a b d m n r is_m is_n is_r = omega arith
 
-pub ruleset statement_rules = (told-0, told-1, told-max, told-node, depth-Value, depth-InitList, depth-Decl, depth-Block, depth-Expression, depth-If, depth-While, depth-DoWhile, depth-For, depth-Break, depth-Continue, depth-Return, depth-Declaration, depth-Statement, depth-Definition)
+pub ruleset statement_rules = (saturated-0, saturated-1, saturated-max, saturated-node, depth-Value, depth-InitList, depth-Decl, depth-Block, depth-Expression, depth-If, depth-While, depth-DoWhile, depth-For, depth-Break, depth-Continue, depth-Return, depth-Declaration, depth-Statement, depth-Definition)

@@ -13,7 +13,7 @@ use Rattle.c_tree.specs.declared.expressions.Member.{Member}
 use Rattle.c_tree.specs.declared.expressions.Param.{Param}
 use Rattle.c_tree.specs.declared.expressions.TypeName.{TypeName}
 use Rattle.c_tree.specs.declared.expressions.Expr as expr
-use Rattle.c_tree.specs.declared.expressions.Expr.{Expr, Row_of-Expr, end_of-Expr, more_of-Expr}
+use Rattle.c_tree.specs.declared.expressions.Expr.{Expr, Row_of-Expr, end_of-Expr, more_of-Expr, Row_of-TypeName, end_of-TypeName, more_of-TypeName}
 use Rattle.c_tree.specs.declared.expressions.Parameters as params
 use Rattle.c_tree.specs.declared.expressions.Parameters.{Parameters, Row_of-Param, end_of-Param, more_of-Param}
 use Rattle.c_tree.specs.declared.expressions.Spec as spec
@@ -37,9 +37,9 @@ abbrev pub deepest : List ℕ → ℕ
 deepest [] = 0
 deepest (n ∷ ns) = max n (deepest ns)
 
--- as a 32-bit number tells it
-unfoldable pub told : ℕ → ℕ
-told n = min n (2 ^ 32 - 1)
+-- as a 32-bit number that stays at its last value
+unfoldable pub saturated : ℕ → ℕ
+saturated n = min n (2 ^ 32 - 1)
 
 -- Expressions and what leads back to them. Nodes are: every primary, parentheses, index, call, member access, operator application
 -- (comma, assignment, `?:` and both forms of `sizeof` included), cast, and the parts of a declarator. No nodes are: specifiers,
@@ -52,8 +52,8 @@ unfoldable mutual
   expr_depth (expr.Access' _ _ (more_of-Expr e end_of-Expr) _ _) = node (expr_depth e)
   expr_depth (expr.Step' _ _ (more_of-Expr e end_of-Expr) _) = node (expr_depth e)
   expr_depth (expr.Unary' _ _ _ (more_of-Expr e end_of-Expr)) = node (expr_depth e)
-  expr_depth (expr.SizeofType' _ _ _ specs _ (more_of-Declarator d end_of-Declarator)) = node (max (specs_depth specs) (declarator_depth d))
-  expr_depth (expr.Cast' _ _ _ specs _ (more_of-Declarator d end_of-Declarator) _ (more_of-Expr e end_of-Expr)) =
+  expr_depth (expr.SizeofType' _ _ (more_of-TypeName _ _ specs _ (more_of-Declarator d end_of-Declarator) end_of-TypeName)) = node (max (specs_depth specs) (declarator_depth d))
+  expr_depth (expr.Cast' _ _ (more_of-TypeName _ _ specs _ (more_of-Declarator d end_of-Declarator) end_of-TypeName) _ (more_of-Expr e end_of-Expr)) =
       node (max (max (specs_depth specs) (declarator_depth d)) (expr_depth e))
   expr_depth (expr.Binary' _ _ (more_of-Expr a end_of-Expr) _ _ _ (more_of-Expr b end_of-Expr)) = node (max (expr_depth a) (expr_depth b))
   expr_depth (expr.Conditional' _ _ (more_of-Expr a end_of-Expr) _ (more_of-Expr b end_of-Expr) _ (more_of-Expr c end_of-Expr)) =
@@ -105,7 +105,7 @@ unfoldable mutual
 
   pub params_depth : {n : _} → Row_of-Param n → ℕ
   params_depth end_of-Param = 0
-  params_depth (more_of-Param _ _ specs d ps) = max (max (specs_depth specs) (declarator_depth d)) (params_depth ps)
+  params_depth (more_of-Param _ _ specs _ (more_of-Declarator d end_of-Declarator) ps) = max (max (specs_depth specs) (declarator_depth d)) (params_depth ps)
 
 -- the same of the parts that are no nodes, each by itself
 abbrev pub optional_depth : Option Expr → ℕ
@@ -168,7 +168,7 @@ unfoldable mutual
 
   pub item_depth : BlockItem → ℕ
   item_depth (item.Declaration d) = declaration_depth d
-  item_depth (item.Statement s) = statement_depth s
+  item_depth (item.Statement' _ (more_of-Stmt s end_of-Stmt)) = statement_depth s
 
   pub items_depth : {n : _} → Row_of-BlockItem n → ℕ
   items_depth end_of-BlockItem = 0

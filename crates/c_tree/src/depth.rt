@@ -1,7 +1,7 @@
 //! How deep a tree is. Each function walks its part once and takes no memory.
 
 ghost use Rattle.std.specs.Prelude.{◌≡◌, ◌+◌, ◌-◌, ◌^◌, min, max, map};
-ghost use Rattle.c_tree.specs.Depth.{told, deepest, expr_depth, spec_depth, declarator_depth, optional_depth};
+ghost use Rattle.c_tree.specs.Depth.{saturated, deepest, expr_depth, spec_depth, declarator_depth, optional_depth};
 ghost use Rattle.c_tree.specs.Depth.{member_depth, enumerator_depth, type_name_depth, parameters_depth, param_depth};
 
 use crate::expressions::{Declarator, Enumerator, Expr, Member, Param, Parameters, Spec, TypeName};
@@ -18,7 +18,7 @@ pub fn node(inside: u32) -> u32
 #[cycle(depth)]
 #[tactic(auto, using(crate::proofs::Equations::depth_rules))]
 pub fn expression(e: &Expr) -> u32
-    ensures { result ≡ told (expr_depth e.now) }
+    ensures { result ≡ saturated (expr_depth e.now) }
 {
     match e {
         Expr::Name(_) | Expr::Number(_) | Expr::Character(_) | Expr::Text(_) => 1,
@@ -30,8 +30,8 @@ pub fn expression(e: &Expr) -> u32
         Expr::Access(_, structure, _, _) => node(expression(structure.get())),
         Expr::Step(_, operand, _) => node(expression(operand.get())),
         Expr::Unary(_, _, operand) => node(expression(operand.get())),
-        Expr::SizeofType(_, name) => node(type_name(name)),
-        Expr::Cast(_, name, operand) => node(type_name(name).max(expression(operand.get()))),
+        Expr::SizeofType(_, name) => node(type_name(name.get())),
+        Expr::Cast(_, name, operand) => node(type_name(name.get()).max(expression(operand.get()))),
         Expr::Binary(_, left, _, _, right) => node(expression(left.get()).max(expression(
             right.get(),
         ))),
@@ -47,7 +47,7 @@ pub fn expression(e: &Expr) -> u32
 #[cycle(depth)]
 #[tactic(auto, using(crate::proofs::Equations::depth_rules))]
 fn expressions(all: &[Expr]) -> u32
-    ensures { result ≡ told (deepest (map expr_depth all.now)) }
+    ensures { result ≡ saturated (deepest (map expr_depth all.now)) }
 {
     let mut depth = 0;
     for e in all {
@@ -56,10 +56,11 @@ fn expressions(all: &[Expr]) -> u32
     depth
 }
 
+/// How deep an expression is that may be left out.
 #[cycle(depth)]
 #[tactic(auto, using(crate::proofs::Equations::depth_rules))]
-fn written(value: &Option<Boxed<Expr>>) -> u32
-    ensures { result ≡ told (optional_depth value.now) }
+pub fn written(value: &Option<Boxed<Expr>>) -> u32
+    ensures { result ≡ saturated (optional_depth value.now) }
 {
     match value {
         None => 0,
@@ -70,7 +71,7 @@ fn written(value: &Option<Boxed<Expr>>) -> u32
 #[cycle(depth)]
 #[tactic(auto, using(crate::proofs::Equations::depth_rules))]
 fn type_name(name: &TypeName) -> u32
-    ensures { result ≡ told (type_name_depth name.now) }
+    ensures { result ≡ saturated (type_name_depth name.now) }
 {
     specifiers(name.specs.as_slice()).max(declarator(name.declarator.get()))
 }
@@ -79,7 +80,7 @@ fn type_name(name: &TypeName) -> u32
 #[cycle(depth)]
 #[tactic(auto, using(crate::proofs::Equations::depth_rules))]
 pub fn specifiers(all: &[Spec]) -> u32
-    ensures { result ≡ told (deepest (map spec_depth all.now)) }
+    ensures { result ≡ saturated (deepest (map spec_depth all.now)) }
 {
     let mut depth = 0;
     for spec in all {
@@ -91,7 +92,7 @@ pub fn specifiers(all: &[Spec]) -> u32
 #[cycle(depth)]
 #[tactic(auto, using(crate::proofs::Equations::depth_rules))]
 fn specifier(spec: &Spec) -> u32
-    ensures { result ≡ told (spec_depth spec.now) }
+    ensures { result ≡ saturated (spec_depth spec.now) }
 {
     match spec {
         Spec::Struct(_, _, lines) => members(lines.as_slice()),
@@ -110,7 +111,7 @@ fn specifier(spec: &Spec) -> u32
 #[cycle(depth)]
 #[tactic(auto, using(crate::proofs::Equations::depth_rules))]
 fn members(all: &[Member]) -> u32
-    ensures { result ≡ told (deepest (map member_depth all.now)) }
+    ensures { result ≡ saturated (deepest (map member_depth all.now)) }
 {
     let mut depth = 0;
     for member in all {
@@ -125,7 +126,7 @@ fn members(all: &[Member]) -> u32
 #[cycle(depth)]
 #[tactic(auto, using(crate::proofs::Equations::depth_rules))]
 fn enumerators(all: &[Enumerator]) -> u32
-    ensures { result ≡ told (deepest (map enumerator_depth all.now)) }
+    ensures { result ≡ saturated (deepest (map enumerator_depth all.now)) }
 {
     let mut depth = 0;
     for enumerator in all {
@@ -138,7 +139,7 @@ fn enumerators(all: &[Enumerator]) -> u32
 #[cycle(depth)]
 #[tactic(auto, using(crate::proofs::Equations::depth_rules))]
 pub fn declarator(d: &Declarator) -> u32
-    ensures { result ≡ told (declarator_depth d.now) }
+    ensures { result ≡ saturated (declarator_depth d.now) }
 {
     match d {
         Declarator::Name(_) | Declarator::Absent => 0,
@@ -154,7 +155,7 @@ pub fn declarator(d: &Declarator) -> u32
 #[cycle(depth)]
 #[tactic(auto, using(crate::proofs::Equations::depth_rules))]
 fn declarators(all: &[Declarator]) -> u32
-    ensures { result ≡ told (deepest (map declarator_depth all.now)) }
+    ensures { result ≡ saturated (deepest (map declarator_depth all.now)) }
 {
     let mut depth = 0;
     for d in all {
@@ -166,7 +167,7 @@ fn declarators(all: &[Declarator]) -> u32
 #[cycle(depth)]
 #[tactic(auto, using(crate::proofs::Equations::depth_rules))]
 fn parameters(list: &Parameters) -> u32
-    ensures { result ≡ told (parameters_depth list.now) }
+    ensures { result ≡ saturated (parameters_depth list.now) }
 {
     match list {
         Parameters::Empty | Parameters::Void(_) => 0,
@@ -177,11 +178,11 @@ fn parameters(list: &Parameters) -> u32
 #[cycle(depth)]
 #[tactic(auto, using(crate::proofs::Equations::depth_rules))]
 fn params(all: &[Param]) -> u32
-    ensures { result ≡ told (deepest (map param_depth all.now)) }
+    ensures { result ≡ saturated (deepest (map param_depth all.now)) }
 {
     let mut depth = 0;
     for param in all {
-        let one = specifiers(param.specs.as_slice()).max(declarator(&param.declarator));
+        let one = specifiers(param.specs.as_slice()).max(declarator(param.declarator.get()));
         depth = depth.max(one);
     }
     depth

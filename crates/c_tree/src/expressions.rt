@@ -4,7 +4,7 @@ use crate::words::{Attr, FunctionWord, Qualifier, Span, StorageWord, TypeWord};
 use sqlite_items::{Boxed, Items};
 
 /// A unary operator before its operand (C17 6.5.3).
-#[derive(Clone, Copy, Debug, PartialEq, Eq)]
+#[derive(Clone, Copy)]
 pub enum UnaryOperator {
     Increment,
     Decrement,
@@ -18,21 +18,21 @@ pub enum UnaryOperator {
 }
 
 /// An operator after its operand (C17 6.5.2.4).
-#[derive(Clone, Copy, Debug, PartialEq, Eq)]
+#[derive(Clone, Copy)]
 pub enum StepOperator {
     Increment,
     Decrement,
 }
 
 /// The access of a member (C17 6.5.2.3).
-#[derive(Clone, Copy, Debug, PartialEq, Eq)]
+#[derive(Clone, Copy)]
 pub enum AccessOperator {
     Dot,
     Arrow,
 }
 
 /// A binary operator, the comma included (C17 6.5.5 to 6.5.14 and 6.5.17).
-#[derive(Clone, Copy, Debug, PartialEq, Eq)]
+#[derive(Clone, Copy)]
 pub enum BinaryOperator {
     Comma,
     LogicalOr,
@@ -56,7 +56,7 @@ pub enum BinaryOperator {
 }
 
 /// An assignment operator (C17 6.5.16).
-#[derive(Clone, Copy, Debug, PartialEq, Eq)]
+#[derive(Clone, Copy)]
 pub enum AssignmentOperator {
     Plain,
     Multiply,
@@ -72,7 +72,7 @@ pub enum AssignmentOperator {
 }
 
 /// An expression (C17 6.5). A place is the byte offset of the first token of the whole expression.
-#[derive(Debug, Drop)]
+#[derive(Drop)]
 #[cycle(expression)]
 pub enum Expr {
     Name(Span),
@@ -89,8 +89,8 @@ pub enum Expr {
     Access(u32, Boxed<Expr>, AccessOperator, Span),
     Step(u32, Boxed<Expr>, StepOperator),
     Unary(u32, UnaryOperator, Boxed<Expr>),
-    SizeofType(u32, TypeName),
-    Cast(u32, TypeName, Boxed<Expr>),
+    SizeofType(u32, Boxed<TypeName>),
+    Cast(u32, Boxed<TypeName>, Boxed<Expr>),
     /// Place, left operand, operator, place of the operator, and right operand.
     Binary(u32, Boxed<Expr>, BinaryOperator, u32, Boxed<Expr>),
     /// Place, condition, and what stands after `?` and after `:`.
@@ -100,7 +100,7 @@ pub enum Expr {
 }
 
 /// A type name (C17 6.7.7).
-#[derive(Debug, Drop)]
+#[derive(Drop)]
 #[cycle(expression)]
 pub struct TypeName {
     pub place: u32,
@@ -109,7 +109,7 @@ pub struct TypeName {
 }
 
 /// A declaration specifier (C17 6.7) or an attribute among them, with the place of its first token.
-#[derive(Debug, Drop)]
+#[derive(Drop)]
 #[cycle(expression)]
 pub enum Spec {
     Storage(u32, StorageWord),
@@ -129,7 +129,7 @@ pub enum Spec {
 }
 
 /// A line of members (C17 6.7.2.1).
-#[derive(Debug, Drop)]
+#[derive(Drop)]
 #[cycle(expression)]
 pub struct Member {
     pub place: u32,
@@ -138,7 +138,7 @@ pub struct Member {
 }
 
 /// An enumerator (C17 6.7.2.2), with its value where it is written.
-#[derive(Debug, Drop)]
+#[derive(Drop)]
 #[cycle(expression)]
 pub struct Enumerator {
     pub name: Span,
@@ -146,14 +146,14 @@ pub struct Enumerator {
 }
 
 /// A qualifier after a `*`, with its place.
-#[derive(Clone, Copy, Debug, PartialEq, Eq)]
+#[derive(Clone, Copy)]
 pub struct PointerQualifier {
     pub place: u32,
     pub qualifier: Qualifier,
 }
 
 /// A declarator (C17 6.7.6), or an abstract one (6.7.7): that one has no name at its inmost.
-#[derive(Debug, Drop)]
+#[derive(Drop)]
 #[cycle(expression)]
 pub enum Declarator {
     Name(Span),
@@ -169,7 +169,7 @@ pub enum Declarator {
 }
 
 /// What stands between the parentheses of a function declarator (C17 6.7.6.3).
-#[derive(Debug, Drop)]
+#[derive(Drop)]
 #[cycle(expression)]
 pub enum Parameters {
     Empty,
@@ -179,10 +179,10 @@ pub enum Parameters {
 }
 
 /// A parameter.
-#[derive(Debug, Drop)]
+#[derive(Drop)]
 #[cycle(expression)]
 pub struct Param {
     pub place: u32,
     pub specs: Items<Spec>,
-    pub declarator: Declarator,
+    pub declarator: Boxed<Declarator>,
 }

@@ -6,8 +6,6 @@ mod depth;
 pub mod expressions;
 mod statement_depth;
 pub mod statements;
-#[cfg(test)]
-mod tests;
 mod words;
 
 pub use declarations::{Decl, FunctionDefinition, Init, InitDeclarator};

@@ -1,7 +1,7 @@
 //! Statements, and the tree of a whole source.
 
 ghost use Rattle.std.specs.Prelude.{◌≡◌};
-ghost use Rattle.c_tree.specs.Depth.{told, tree_depth};
+ghost use Rattle.c_tree.specs.Depth.{saturated, tree_depth};
 
 use crate::declarations::{Decl, FunctionDefinition};
 use crate::expressions::Expr;
@@ -9,47 +9,47 @@ use crate::statement_depth::external;
 use sqlite_items::{Boxed, Items};
 
 /// A statement (C17 6.8); its place is the byte offset of its first token.
-#[derive(Debug, Drop)]
+#[derive(Drop)]
 #[cycle(statement)]
 pub enum Stmt {
     Block(u32, Items<BlockItem>),
     /// An expression and `;`, or `;` alone.
-    Expression(u32, Option<Expr>),
+    Expression(u32, Option<Boxed<Expr>>),
     /// Place, condition, and what stands after it and after `else`.
-    If(u32, Expr, Boxed<Stmt>, Option<Boxed<Stmt>>),
-    While(u32, Expr, Boxed<Stmt>),
-    DoWhile(u32, Boxed<Stmt>, Expr),
+    If(u32, Boxed<Expr>, Boxed<Stmt>, Option<Boxed<Stmt>>),
+    While(u32, Boxed<Expr>, Boxed<Stmt>),
+    DoWhile(u32, Boxed<Stmt>, Boxed<Expr>),
     /// Place, start, condition, step and body.
-    For(u32, ForStart, Option<Expr>, Option<Expr>, Boxed<Stmt>),
+    For(u32, ForStart, Option<Boxed<Expr>>, Option<Boxed<Expr>>, Boxed<Stmt>),
     Break(u32),
     Continue(u32),
-    Return(u32, Option<Expr>),
+    Return(u32, Option<Boxed<Expr>>),
 }
 
 /// What stands in a block.
-#[derive(Debug, Drop)]
+#[derive(Drop)]
 #[cycle(statement)]
 pub enum BlockItem {
-    Declaration(Decl),
-    Statement(Stmt),
+    Declaration(Boxed<Decl>),
+    Statement(Boxed<Stmt>),
 }
 
 /// What stands before the first `;` of a `for`.
-#[derive(Debug, Drop)]
+#[derive(Drop)]
 pub enum ForStart {
-    Declaration(Decl),
-    Expression(Option<Expr>),
+    Declaration(Boxed<Decl>),
+    Expression(Option<Boxed<Expr>>),
 }
 
 /// An external declaration (C17 6.9).
-#[derive(Debug, Drop)]
+#[derive(Drop)]
 pub enum External {
-    Declaration(Decl),
-    Function(FunctionDefinition),
+    Declaration(Boxed<Decl>),
+    Function(Boxed<FunctionDefinition>),
 }
 
 /// The tree of a source: its external declarations in order.
-#[derive(Debug, Drop)]
+#[derive(Drop)]
 pub struct Tree {
     pub externals: Items<External>,
 }
@@ -59,7 +59,7 @@ impl Tree {
     /// takes no memory.
     #[tactic(auto, using(crate::proofs::StatementEquations::statement_rules))]
     pub fn depth(&self) -> u32
-        ensures { result ≡ told (tree_depth self.now) }
+        ensures { result ≡ saturated (tree_depth self.now) }
     {
         let mut depth = 0;
         for one in self.externals.as_slice() {

@@ -1,12 +1,12 @@
 use Rattle.std.proofs.Common.{◌≡◌, max, arith}
 use Rattle.std.proofs.lemmas.Grind.{common_steps}
-use Rattle.c_tree.specs.Depth.{told, expr_depth, spec_depth, member_depth, enumerator_depth, declarator_depth, param_depth}
-use Rattle.c_tree.proofs.Equations.{deepest-more, deepest-end, told-max}
+use Rattle.c_tree.specs.Depth.{saturated, expr_depth, spec_depth, member_depth, enumerator_depth, declarator_depth, param_depth}
+use Rattle.c_tree.proofs.Equations.{deepest-more, deepest-end, saturated-max}
 use Rattle.c_tree.proofs.depth.+depth.Goals as goal
 
 pub expressions-loop-e-preserved : goal.expressions-loop-e-preserved
 expressions-loop-e-preserved t c =
-    let most : c.max-depth.result ≡ max c.loop-e.depth (told (expr_depth c.e-item.result)) = grind (arith, common_steps, told-max) in
+    let most : c.max-depth.result ≡ max c.loop-e.depth (saturated (expr_depth c.e-item.result)) = grind (arith, common_steps, saturated-max) in
     deepest-more expr_depth c.args.all.now c.loop-e.e-index c.e-item.result _ c.loop-e.depth c.max-depth.result c.loop-e.invariant
     c.loop-e-test.true c.e-item.is most
 
@@ -15,7 +15,7 @@ expressions-returns t c = deepest-end expr_depth c.args.all.now c.loop-e.e-index
 
 pub specifiers-loop-spec-preserved : goal.specifiers-loop-spec-preserved
 specifiers-loop-spec-preserved t c =
-    let most : c.max-depth.result ≡ max c.loop-spec.depth (told (spec_depth c.spec-item.result)) = grind (arith, common_steps, told-max) in
+    let most : c.max-depth.result ≡ max c.loop-spec.depth (saturated (spec_depth c.spec-item.result)) = grind (arith, common_steps, saturated-max) in
     deepest-more spec_depth c.args.all.now c.loop-spec.spec-index c.spec-item.result _ c.loop-spec.depth c.max-depth.result c.loop-spec.invariant
     c.loop-spec-test.true c.spec-item.is most
 
@@ -24,7 +24,7 @@ specifiers-returns t c = deepest-end spec_depth c.args.all.now c.loop-spec.spec-
 
 pub members-loop-member-preserved : goal.members-loop-member-preserved
 members-loop-member-preserved t c =
-    let most : c.max-depth.result ≡ max c.loop-member.depth (told (member_depth c.member-item.result)) = grind (arith, common_steps, told-max) in
+    let most : c.max-depth.result ≡ max c.loop-member.depth (saturated (member_depth c.member-item.result)) = grind (arith, common_steps, saturated-max) in
     deepest-more member_depth c.args.all.now c.loop-member.member-index c.member-item.result _ c.loop-member.depth c.max-depth.result c.loop-member.invariant
     c.loop-member-test.true c.member-item.is most
 
@@ -33,7 +33,7 @@ members-returns t c = deepest-end member_depth c.args.all.now c.loop-member.memb
 
 pub enumerators-loop-enumerator-preserved : goal.enumerators-loop-enumerator-preserved
 enumerators-loop-enumerator-preserved t c =
-    let most : c.max-depth.result ≡ max c.loop-enumerator.depth (told (enumerator_depth c.enumerator-item.result)) = grind (arith, common_steps, told-max) in
+    let most : c.max-depth.result ≡ max c.loop-enumerator.depth (saturated (enumerator_depth c.enumerator-item.result)) = grind (arith, common_steps, saturated-max) in
     deepest-more enumerator_depth c.args.all.now c.loop-enumerator.enumerator-index c.enumerator-item.result _ c.loop-enumerator.depth c.max-depth.result c.loop-enumerator.invariant
     c.loop-enumerator-test.true c.enumerator-item.is most
 
@@ -42,7 +42,7 @@ enumerators-returns t c = deepest-end enumerator_depth c.args.all.now c.loop-enu
 
 pub declarators-loop-d-preserved : goal.declarators-loop-d-preserved
 declarators-loop-d-preserved t c =
-    let most : c.max-depth.result ≡ max c.loop-d.depth (told (declarator_depth c.d-item.result)) = grind (arith, common_steps, told-max) in
+    let most : c.max-depth.result ≡ max c.loop-d.depth (saturated (declarator_depth c.d-item.result)) = grind (arith, common_steps, saturated-max) in
     deepest-more declarator_depth c.args.all.now c.loop-d.d-index c.d-item.result _ c.loop-d.depth c.max-depth.result c.loop-d.invariant
     c.loop-d-test.true c.d-item.is most
 
@@ -51,7 +51,7 @@ declarators-returns t c = deepest-end declarator_depth c.args.all.now c.loop-d.d
 
 pub params-loop-param-preserved : goal.params-loop-param-preserved
 params-loop-param-preserved t c =
-    let most : c.max-depth.result ≡ max c.loop-param.depth (told (param_depth c.param-item.result)) = grind (arith, common_steps, told-max) in
+    let most : c.max-depth.result ≡ max c.loop-param.depth (saturated (param_depth c.param-item.result)) = grind (arith, common_steps, saturated-max) in
     deepest-more param_depth c.args.all.now c.loop-param.param-index c.param-item.result _ c.loop-param.depth c.max-depth.result c.loop-param.invariant
     c.loop-param-test.true c.param-item.is most
 

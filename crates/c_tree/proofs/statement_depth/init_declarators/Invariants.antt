@@ -1,7 +1,7 @@
 -- The deepest so far, and what is still to be looked at, give the depth of all.
 use Rattle.std.proofs.Common.{◌≡◌, drop, max, map}
-use Rattle.c_tree.specs.Depth.{told, deepest, init_declarator_depth}
+use Rattle.c_tree.specs.Depth.{saturated, deepest, init_declarator_depth}
 use Rattle.c_tree.proofs.statement_depth.init_declarators.Given as goal
 
 abbrev pub invariant-loop-one : goal.invariant-loop-one
-invariant-loop-one l = told (deepest (map init_declarator_depth l.all)) ≡ max l.depth (told (deepest (map init_declarator_depth (drop l.one-index l.all))))
+invariant-loop-one l = saturated (deepest (map init_declarator_depth l.all)) ≡ max l.depth (saturated (deepest (map init_declarator_depth (drop l.one-index l.all))))
