@@ -7,15 +7,16 @@ use Rattle.c_text.specs.declared.Token.{Token}
 use Rattle.c_tree.specs.declared.statements.Tree.{Tree}
 use Rattle.c_grammar.specs.Lexemes.{Lexeme, lexemes_of}
 use Rattle.c_grammar.specs.Rules.{Unit}
-use Rattle.c_grammar.specs.Grammar.{c_grammar, c_hints}
+use Rattle.c_grammar.specs.Grammar.{c_grammar}
+use Rattle.c_grammar.specs.Lookahead.{c_lookahead}
 use Rattle.c_grammar.specs.Refusals.{deepest, NumberAt}
 use Rattle.c_grammar.proofs.Fit.{c_grammar_fits}
-use Rattle.c_depth.proofs.Law.{depth_of_tree}
-use Rattle.c_parse.specs.Parsed.{IsParsed, IsRefusedAt, IfBad, IsRefusedFrom, Tells, place_of}
+use Rattle.c_grammar.proofs.DepthLaw.{depth_of_tree}
+use Rattle.c_parse.specs.Parsed.{IsParsed, IsRefusedAt, IfBad, IsRefusedFrom, IsAnswer, place_of}
 use Rattle.c_parse.specs.declared.ParseRefusal.{ParseRefusal}
 use Rattle.c_parse.specs.declared.ParseRefusal.TheVariants.{Bad as Unread, NoMemory}
 use Rattle.c_parse.specs.declared.file.Fault.TheVariants.{Refused}
-use Rattle.c_parse.proofs.Files.{told_tree, told_refusal}
+use Rattle.c_parse.proofs.Files.{answered_tree, answered_refusal}
 
 same_by_depth : (deep : Bool) (n m : ℕ) → ((deep ≡ true) × (n ≡ 2)) ⊎ ((deep ≡ false) × (n ≡ 1)) → ((deep ≡ true) × (m ≡ 2)) ⊎ ((deep ≡ false) × (m ≡ 1))
     → m ≡ n
@@ -44,25 +45,25 @@ if_bad f (Unread number token place) h = f number token place h
 if_bad f NoMemory h = tt
 
 module _ (source : List ℕ) (tokens : List Token) where
-  pub parsed : (tree : Tree) → Tells (parse_all c_grammar c_hints deepest Unit (lexemes_of source tokens)) (Ok tree) → IsParsed source tokens tree
+  pub parsed : (tree : Tree) → IsAnswer (parse_all c_grammar c_lookahead deepest Unit (lexemes_of source tokens)) (Ok tree) → IsParsed source tokens tree
   parsed tree h =
-      let (depth, e) = told_tree (parse_all c_grammar c_hints deepest Unit (lexemes_of source tokens)) tree h in
-      let s = sound c_grammar c_hints c_grammar_fits deepest Unit (lexemes_of source tokens) tree depth [] e in
+      let (depth, e) = answered_tree (parse_all c_grammar c_lookahead deepest Unit (lexemes_of source tokens)) tree h in
+      let s = sound c_grammar c_lookahead c_grammar_fits deepest Unit (lexemes_of source tokens) tree depth [] e in
       let d = (depth_of_tree depth (lexemes_of source tokens) tree).0 s.1 in (d.0, omega (arith, d.1, s.2))
 
-  pub refused_from : (deep : Bool) (left : ℕ) → Tells (parse_all c_grammar c_hints deepest Unit (lexemes_of source tokens)) (Err (Refused deep left))
+  pub refused_from : (deep : Bool) (left : ℕ) → IsAnswer (parse_all c_grammar c_lookahead deepest Unit (lexemes_of source tokens)) (Err (Refused deep left))
       → IsRefusedFrom source tokens deep left
-  refused_from deep left h = told_refusal (parse_all c_grammar c_hints deepest Unit (lexemes_of source tokens)) deep left h
+  refused_from deep left h = answered_refusal (parse_all c_grammar c_lookahead deepest Unit (lexemes_of source tokens)) deep left h
 
   pub one_tree : (tree other : Tree) → IsParsed source tokens tree → IsParsed source tokens other → other ≡ tree
-  one_tree tree other ((d, w), l) ((e, v), m) = one_reading c_grammar c_hints c_grammar_fits e d Unit (lexemes_of source tokens) other tree v w
+  one_tree tree other ((d, w), l) ((e, v), m) = one_reading c_grammar c_lookahead c_grammar_fits e d Unit (lexemes_of source tokens) other tree v w
 
   pub not_both : (tree : Tree) (number token place : ℕ) → IsParsed source tokens tree → IsRefusedAt source tokens number token place → ⊥
   not_both tree number token place (read, l) r =
       let w = (depth_of_tree deepest (lexemes_of source tokens) tree).1 (read, l) in
       let (deep, before, q, f, n) = r.refused in
-      let bad = only_fault c_grammar c_hints c_grammar_fits deepest Unit (lexemes_of source tokens) deep r.rest f in
-      let (e, m, got) = complete c_grammar c_hints c_grammar_fits deepest deepest Unit (lexemes_of source tokens) tree w (omega arith) in
+      let bad = only_fault c_grammar c_lookahead c_grammar_fits deepest Unit (lexemes_of source tokens) deep r.rest f in
+      let (e, m, got) = complete c_grammar c_lookahead c_grammar_fits deepest deepest Unit (lexemes_of source tokens) tree w (omega arith) in
       let clash : ⊥ = cc in clash
 
   pub one_refusal : (number token place other index spot : ℕ) → IsRefusedAt source tokens number token place → IsRefusedAt source tokens other index spot

@@ -1,4 +1,4 @@
--- A source with a new name behind it: its tokens, and what their reading tells.
+-- A source with a new name behind it: its tokens, and what follows from their reading.
 use Rattle.std.proofs.Common.{◌≡◌, refl, ℕ, ◌+◌, ◌-◌, ◌≤◌, nat_eq, List, [], ◌∷◌, ◌++◌, length, replicate, drop, take, All, ap, ap₂, sym, ◌∙◌, subst, append_assoc, append-nil, get_or, Ok, Err, length-drop, length-append, arith}
 use Rattle.std.proofs.lemmas.List.{drop-append-le, take-append-le, length-replicate, map-append}
 use Rattle.std.proofs.lemmas.List.Elements.{All-append, All-cons, All-nil, All-tail}
@@ -13,11 +13,12 @@ use Rattle.c_text.specs.Spelling.{IsWithin, text_of}
 use Rattle.c_tree.specs.declared.statements.Tree.{Tree}
 use Rattle.c_grammar.specs.Lexemes.{Lexeme, lexeme_of, lexemes_of}
 use Rattle.c_grammar.specs.Rules.{Unit}
-use Rattle.c_grammar.specs.Grammar.{c_grammar, c_hints}
+use Rattle.c_grammar.specs.Grammar.{c_grammar}
+use Rattle.c_grammar.specs.Lookahead.{c_lookahead}
 use Rattle.c_grammar.specs.Refusals.{deepest, new_name}
 use Rattle.c_grammar.proofs.Fit.{c_grammar_fits}
-use Rattle.c_parse.specs.Parsed.{Tells, TellsOfName, new_token}
-use Rattle.c_parse.proofs.Files.{told_tree, told_refusal}
+use Rattle.c_parse.specs.Parsed.{IsAnswer, SaysIfNameGoesOn, new_token}
+use Rattle.c_parse.proofs.Files.{answered_tree, answered_refusal}
 use Rattle.c_parse.specs.declared.file.Fault.TheVariants.{Refused}
 use Rattle.std.specs.Prelude.{Bool}
 
@@ -74,28 +75,28 @@ module _ (source longer : List ℕ) (before tokens : List Token) (e : longer ≡
   same : lexemes_of longer tokens ≡ lexemes_of source before ++ (new_name source ∷ [])
   same = rw (e, f) (new_lexemes source before within)
 
-  pub goes_on : (tree : Tree) → Tells (parse_all c_grammar c_hints deepest Unit (lexemes_of longer tokens)) (Ok tree) → TellsOfName source before Bool.true
+  pub goes_on : (tree : Tree) → IsAnswer (parse_all c_grammar c_lookahead deepest Unit (lexemes_of longer tokens)) (Ok tree) → SaysIfNameGoesOn source before Bool.true
   goes_on tree h =
-      let (depth, g) = told_tree (parse_all c_grammar c_hints deepest Unit (lexemes_of longer tokens)) tree h in
-      let s = sound c_grammar c_hints c_grammar_fits deepest Unit (lexemes_of longer tokens) tree depth [] g in
+      let (depth, g) = answered_tree (parse_all c_grammar c_lookahead deepest Unit (lexemes_of longer tokens)) tree h in
+      let s = sound c_grammar c_lookahead c_grammar_fits deepest Unit (lexemes_of longer tokens) tree depth [] g in
       subst (λ us. IsViable c_grammar deepest Unit us) same
       (read_viable c_grammar deepest Unit (lexemes_of longer tokens) tree
       (is_read_up c_grammar depth deepest Unit (lexemes_of longer tokens) tree s.2 s.1))
 
-  stops_at : (deep : Bool) (rest : List Lexeme) → parse_all c_grammar c_hints deepest Unit (lexemes_of longer tokens) ≡ Bad deep rest
-      → TellsOfName source before (nat_eq (length rest) 0)
+  stops_at : (deep : Bool) (rest : List Lexeme) → parse_all c_grammar c_lookahead deepest Unit (lexemes_of longer tokens) ≡ Bad deep rest
+      → SaysIfNameGoesOn source before (nat_eq (length rest) 0)
   stops_at deep [] h =
-      let (c, q, refused, viable) = fault c_grammar c_hints c_grammar_fits deepest Unit (lexemes_of longer tokens) deep [] h in
+      let (c, q, refused, viable) = fault c_grammar c_lookahead c_grammar_fits deepest Unit (lexemes_of longer tokens) deep [] h in
       subst (λ us. IsViable c_grammar deepest Unit us) (sym (append-nil c) ∙ sym q ∙ same) (viable c [] (sym (append-nil c)))
   stops_at deep (t ∷ rest) h =
       let more : nat_eq (length (t ∷ rest)) 0 ≡ Bool.false = grind arith in
       rw more (λ goes.
-      let (c, q, refused, viable) = fault c_grammar c_hints c_grammar_fits deepest Unit (lexemes_of longer tokens) deep (t ∷ rest) h in
+      let (c, q, refused, viable) = fault c_grammar c_lookahead c_grammar_fits deepest Unit (lexemes_of longer tokens) deep (t ∷ rest) h in
       refused.0 (viable_prefix c_grammar deepest Unit (c ++ (t ∷ [])) rest
       (subst (λ us. IsViable c_grammar deepest Unit us) (sym same ∙ q ∙ sym (append_assoc c (t ∷ []) rest)) goes)))
 
-  pub stops : (deep : Bool) (left : ℕ) → Tells (parse_all c_grammar c_hints deepest Unit (lexemes_of longer tokens)) (Err (Refused deep left))
-      → TellsOfName source before (nat_eq left 0)
+  pub stops : (deep : Bool) (left : ℕ) → IsAnswer (parse_all c_grammar c_lookahead deepest Unit (lexemes_of longer tokens)) (Err (Refused deep left))
+      → SaysIfNameGoesOn source before (nat_eq left 0)
   stops deep left h =
-      let (rest, g, n) = told_refusal (parse_all c_grammar c_hints deepest Unit (lexemes_of longer tokens)) deep left h in
+      let (rest, g, n) = answered_refusal (parse_all c_grammar c_lookahead deepest Unit (lexemes_of longer tokens)) deep left h in
       rw n (stops_at deep rest g)

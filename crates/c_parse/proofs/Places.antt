@@ -6,7 +6,8 @@ use Rattle.grammar.proofs.Theorem.{fault}
 use Rattle.c_text.specs.declared.Token.{Token}
 use Rattle.c_grammar.specs.Lexemes.{Lexeme, lexeme_of, lexemes_of}
 use Rattle.c_grammar.specs.Rules.{Unit}
-use Rattle.c_grammar.specs.Grammar.{c_grammar, c_hints}
+use Rattle.c_grammar.specs.Grammar.{c_grammar}
+use Rattle.c_grammar.specs.Lookahead.{c_lookahead}
 use Rattle.c_grammar.specs.Refusals.{deepest, NumberAt}
 use Rattle.c_grammar.proofs.Fit.{c_grammar_fits}
 use Rattle.c_parse.specs.Parsed.{IsRefusedAt, IsRefusedFrom, IsNumberOf, NumberByDepth}
@@ -32,14 +33,14 @@ module _ (source : List ℕ) (tokens : List Token) (deep : Bool) (left : ℕ) (h
 
   pub left_within : left ≤ length tokens
   left_within =
-      let (c, q, refused, viable) = fault c_grammar c_hints c_grammar_fits deepest Unit (lexemes_of source tokens) deep h.0 h.1 in
+      let (c, q, refused, viable) = fault c_grammar c_lookahead c_grammar_fits deepest Unit (lexemes_of source tokens) deep h.0 h.1 in
       let n : length tokens ≡ length c + length h.0 = counted c h.0 q in
       let m : left ≡ length h.0 = h.2 in omega arith
 
-  end_of : (rest : List Lexeme) → parse_all c_grammar c_hints deepest Unit (lexemes_of source tokens) ≡ Bad deep rest → left ≡ length rest
+  end_of : (rest : List Lexeme) → parse_all c_grammar c_lookahead deepest Unit (lexemes_of source tokens) ≡ Bad deep rest → left ≡ length rest
       → left ≡ 0 → (number : ℕ) → NumberByDepth deep number → IsRefusedAt source tokens number (length tokens - left) (length source)
   end_of [] e m z number n =
-      let f = fault c_grammar c_hints c_grammar_fits deepest Unit (lexemes_of source tokens) deep [] e in
+      let f = fault c_grammar c_lookahead c_grammar_fits deepest Unit (lexemes_of source tokens) deep [] e in
       record {
         rest = [];
         refused = (deep, f.0, f.1, f, n);
@@ -51,13 +52,13 @@ module _ (source : List ℕ) (tokens : List Token) (deep : Bool) (left : ℕ) (h
   pub at_end : left ≡ 0 → (number : ℕ) → NumberByDepth deep number → IsRefusedAt source tokens number (length tokens - left) (length source)
   at_end z number n = end_of h.0 h.1 h.2 z number n
 
-  token_of : (rest : List Lexeme) → parse_all c_grammar c_hints deepest Unit (lexemes_of source tokens) ≡ Bad deep rest → left ≡ length rest
+  token_of : (rest : List Lexeme) → parse_all c_grammar c_lookahead deepest Unit (lexemes_of source tokens) ≡ Bad deep rest → left ≡ length rest
       → (left ≡ 0 → ⊥) → (d : Token) (number : ℕ)
       → IsNumberOf source (lexemes_of source (take (length tokens - left) tokens)) deep (lexeme_of source (slice_index_or tokens (length tokens - left) d)) number
       → IsRefusedAt source tokens number (length tokens - left) (slice_index_or tokens (length tokens - left) d).start
   token_of [] e m z d number n = absurd (z m)
   token_of (u ∷ us) e m z d number n =
-      let f = fault c_grammar c_hints c_grammar_fits deepest Unit (lexemes_of source tokens) deep (u ∷ us) e in
+      let f = fault c_grammar c_lookahead c_grammar_fits deepest Unit (lexemes_of source tokens) deep (u ∷ us) e in
       let all : length tokens ≡ length f.0 + suc (length us) = counted f.0 (u ∷ us) f.1 in
       let index : length tokens - left ≡ length f.0 = omega arith in
       let s = split source f.0 u us tokens f.1 in

@@ -8,7 +8,8 @@ use Rattle.c_tree.specs.declared.statements.Tree.{Tree}
 use Rattle.c_tree.specs.Depth.{tree_depth}
 use Rattle.c_grammar.specs.Lexemes.{Lexeme, lexemes_of}
 use Rattle.c_grammar.specs.Rules.{Unit as WholeFile}
-use Rattle.c_grammar.specs.Grammar.{c_grammar, c_hints}
+use Rattle.c_grammar.specs.Grammar.{c_grammar}
+use Rattle.c_grammar.specs.Lookahead.{c_lookahead}
 use Rattle.c_grammar.specs.Refusals.{deepest, GoesOnWithName, NumberAt, IsRefusedWith}
 use Rattle.c_parse.specs.declared.ParseRefusal.{ParseRefusal}
 use Rattle.c_parse.specs.declared.ParseRefusal.TheVariants.{Bad as Unread, NoMemory}
@@ -32,25 +33,25 @@ pub record IsRefusedAt (source : List ℕ) (tokens : List Token) (number token p
   pub counted : token + length rest ≡ length tokens
   pub placed : place ≡ place_of source rest
 
--- the fact holds of what is told of a refused token
+-- the fact holds of the number, the index and the place of the refused token, where there is one
 abbrev pub IfBad : (ℕ → ℕ → ℕ → Type 0) → ParseRefusal → Type 0
 IfBad P (Unread number token place) = P number token place
 IfBad P NoMemory = Unit {0}
 
 -- What is answered for a whole file is what the theory's parser says; where memory ran out it says nothing.
-abbrev pub Tells : Outcome Lexeme Tree → Result Tree Fault → Type 0
-Tells o (Ok tree) = (depth : ℕ) × (o ≡ Got tree depth [])
-Tells o (Err (Refused deep left)) = (rest : List Lexeme) × (o ≡ Bad deep rest) × (left ≡ length rest)
-Tells o (Err NoMemoryToRead) = Unit {0}
+abbrev pub IsAnswer : Outcome Lexeme Tree → Result Tree Fault → Type 0
+IsAnswer o (Ok tree) = (depth : ℕ) × (o ≡ Got tree depth [])
+IsAnswer o (Err (Refused deep left)) = (rest : List Lexeme) × (o ≡ Bad deep rest) × (left ≡ length rest)
+IsAnswer o (Err NoMemoryToRead) = Unit {0}
 
 -- the token of a name that stands behind a source of this length, and is longer
 abbrev pub new_token : ℕ → Token
 new_token length = record { kind = Name; start = length; end = length + (length + 26) }
 
--- It is told whether the tokens have a reading that goes on with an ordinary name.
-abbrev pub TellsOfName : List ℕ → List Token → Bool → Type 0
-TellsOfName source before true = GoesOnWithName source (lexemes_of source before)
-TellsOfName source before false = GoesOnWithName source (lexemes_of source before) → ⊥
+-- The Bool says whether the tokens have a reading that goes on with an ordinary name.
+abbrev pub SaysIfNameGoesOn : List ℕ → List Token → Bool → Type 0
+SaysIfNameGoesOn source before true = GoesOnWithName source (lexemes_of source before)
+SaysIfNameGoesOn source before false = GoesOnWithName source (lexemes_of source before) → ⊥
 
 -- the number of a refusal at the end of the file, and at a token, as `NumberAt` has them
 abbrev pub NumberByDepth : Bool → ℕ → Type 0
@@ -62,4 +63,4 @@ IsNumberOf source before deep t number = NumberAt source before deep (t ∷ []) 
 -- the theory's parser refuses where so many tokens are left
 abbrev pub IsRefusedFrom : List ℕ → List Token → Bool → ℕ → Type 0
 IsRefusedFrom source tokens deep left =
-    (rest : List Lexeme) × (parse_all c_grammar c_hints deepest WholeFile (lexemes_of source tokens) ≡ Bad deep rest) × (left ≡ length rest)
+    (rest : List Lexeme) × (parse_all c_grammar c_lookahead deepest WholeFile (lexemes_of source tokens) ≡ Bad deep rest) × (left ≡ length rest)

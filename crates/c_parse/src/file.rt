@@ -5,14 +5,15 @@ ghost use Rattle.grammar.specs.Parser.{parse_all};
 ghost use Rattle.c_text.specs.Spelling.{IsWithin};
 ghost use Rattle.c_grammar.specs.Lexemes.{lexemes_of};
 ghost use Rattle.c_grammar.specs.Rules.{Unit as WholeFile};
-ghost use Rattle.c_grammar.specs.Grammar.{c_grammar, c_hints};
+ghost use Rattle.c_grammar.specs.Grammar.{c_grammar};
+ghost use Rattle.c_grammar.specs.Lookahead.{c_lookahead};
 ghost use Rattle.c_grammar.specs.Refusals.{deepest};
-ghost use Rattle.c_parse.specs.Parsed.{Tells};
+ghost use Rattle.c_parse.specs.Parsed.{IsAnswer};
 
-use c_input::{Input, Limits, Refusal};
-use c_statements::unit;
 use c_text::Token;
 use c_tree::Tree;
+use parse_files::unit;
+use parse_input::{Input, Limits, Refusal};
 use std::alloc::Global;
 
 /// How deep a tree may be, and how many definitions of structures and enumerations may be open.
@@ -30,10 +31,10 @@ pub enum Fault {
 }
 
 /// Reads all tokens of a file.
-#[tactic(auto, using(crate::proofs::Files::got, crate::proofs::Files::left_over, crate::proofs::Files::bad, crate::proofs::Files::nothing_told))]
+#[tactic(auto, using(crate::proofs::Files::got, crate::proofs::Files::left_over, crate::proofs::Files::bad, crate::proofs::Files::no_answer))]
 pub fn read_file(alloc: Global, source: &[u8], tokens: &[Token]) -> Result<Tree, Fault>
     requires { All (IsWithin source.now) tokens.now }
-    ensures { Tells (parse_all c_grammar c_hints deepest WholeFile (lexemes_of source.now tokens.now)) result }
+    ensures { IsAnswer (parse_all c_grammar c_lookahead deepest WholeFile (lexemes_of source.now tokens.now)) result }
 {
     let mut input = match Input::new(alloc, source, tokens) {
         Ok(input) => input,

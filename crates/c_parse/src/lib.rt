@@ -8,8 +8,6 @@ ghost use Rattle.c_parse.specs.Parsed.{IsParsed, IsRefusedAt, IfBad};
 
 mod file;
 mod number;
-#[cfg(test)]
-mod tests;
 
 use crate::file::{Fault, read_file};
 use crate::number::refusal_at;
@@ -19,7 +17,7 @@ use std::alloc::Global;
 use thiserror::Error;
 
 /// Why tokens have no tree.
-#[derive(Clone, Copy, Debug, PartialEq, Eq, Error)]
+#[derive(Clone, Copy, Debug, Error)]
 pub enum ParseRefusal {
     /// The first refused token: its number, its index among the tokens from 0 and the byte offset from 0 of its place; at
     /// the end of the file the count of the tokens and the length of the source. The numbers are 1 token not expected,

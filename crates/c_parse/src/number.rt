@@ -4,14 +4,13 @@ ghost use Rattle.std.specs.Prelude.{◌≡◌, ◌+◌, ◌≤◌, All, [], ◌�
 ghost use Rattle.c_text.specs.Spelling.{IsWithin};
 ghost use Rattle.c_grammar.specs.Lexemes.{Lexeme, lexemes_of};
 ghost use Rattle.c_grammar.specs.Refusals.{is_reserved_name};
-ghost use Rattle.c_parse.specs.Parsed.{IsRefusedAt, IsRefusedFrom, IsNumberOf, NumberByDepth, IfBad, TellsOfName, new_token};
+ghost use Rattle.c_parse.specs.Parsed.{IsRefusedAt, IsRefusedFrom, IsNumberOf, NumberByDepth, IfBad, SaysIfNameGoesOn, new_token};
 
 use crate::ParseRefusal;
 use crate::file::{Fault, read_file};
-use c_grammar::Sign;
-use c_input::{Seen, seen_in};
-use c_starts::is_reserved;
+use c_grammar::Terminal;
 use c_text::{Token, TokenKind};
+use parse_input::{Seen, is_reserved, seen_in};
 use sqlite_items::Items;
 use std::alloc::{AllocError, Global};
 
@@ -19,7 +18,7 @@ use std::alloc::{AllocError, Global};
 fn is_reserved_name(seen: &Seen<'_>) -> bool
     ensures { result ≡ is_reserved_name seen.now }
 {
-    seen.is(Sign::Name) && is_reserved(seen)
+    seen.is(Terminal::Name) && is_reserved(seen)
 }
 
 /// The source with a name behind it that stands nowhere in it.
@@ -57,7 +56,7 @@ fn with_name_token(
 fn goes_on_with_name(alloc: Global, source: &[u8], before: &[Token]) -> Result<bool, AllocError>
     requires short { length source.now ≤ 1048576 }
     requires within { All (IsWithin source.now) before.now }
-    ensures { IfOk result (λ goes. TellsOfName source.now before.now goes) }
+    ensures { IfOk result (λ goes. SaysIfNameGoesOn source.now before.now goes) }
 {
     let longer = with_new_name(alloc, source)?;
     let tokens = with_name_token(alloc, source.len(), before)?;
@@ -88,7 +87,7 @@ fn number_at(
     requires within { All (IsWithin source.now) before.now }
     ensures { IfOk result (λ number. IsNumberOf source.now (lexemes_of source.now before.now) deep seen.now number) }
 {
-    if seen.is(Sign::Unused) {
+    if seen.is(Terminal::Unused) {
         return Ok(4);
     }
     if !is_reserved_name(seen) {
@@ -100,7 +99,7 @@ fn number_at(
     Ok(number_by_depth(deep))
 }
 
-/// What is told of a refusal of which so many tokens are left.
+/// The refusal of the token from which on so many tokens are left.
 #[tactic(auto, using(crate::proofs::Places::left_within, crate::proofs::Places::at_end, crate::proofs::Places::at_token))]
 pub fn refusal_at(
     alloc: Global,

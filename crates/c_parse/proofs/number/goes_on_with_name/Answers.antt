@@ -1,4 +1,4 @@
--- What the reading of the longer source tells.
+-- What follows from the reading of the longer source.
 use Rattle.std.proofs.Common.{rules}
 use Rattle.c_parse.proofs.Names.{goes_on, stops}
 use Rattle.c_parse.proofs.number.goes_on_with_name.Goals as goal

@@ -1,8 +1,0 @@
-pub mod Specifying
-pub mod Lines
-pub mod Pointing
-pub mod Starting
-pub mod Directs
-pub mod Nesting
-pub mod Listing
-pub mod Grouping

@@ -1,6 +1,0 @@
-pub mod Named
-pub mod Nested
-pub mod Parts
-pub mod Specified
-pub mod Parameters
-pub mod Starts

@@ -1,5 +1,0 @@
-pub mod Primaries
-pub mod Postfixes
-pub mod Prefixes
-pub mod Binaries
-pub mod Chains

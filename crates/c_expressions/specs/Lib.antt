@@ -1,5 +1,0 @@
-pub mod Named
-pub mod Nested
-pub mod Nodes
-pub mod Parts
-pub mod Climbing

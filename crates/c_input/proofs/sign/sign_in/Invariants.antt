@@ -1,7 +1,0 @@
--- The word stands in none of the rows so far.
-use Rattle.std.proofs.Common.{◌≡◌, map, drop}
-use Rattle.c_grammar.specs.Lexemes.{sign_in, spelled}
-use Rattle.c_input.proofs.sign.sign_in.Given as goal
-
-abbrev pub invariant-rows : goal.invariant-rows
-invariant-rows l = sign_in (map (λ row. spelled row.0.now row.1) l.rows) l.word ≡ sign_in (map (λ row. spelled row.0.now row.1) (drop l.row-index l.rows)) l.word

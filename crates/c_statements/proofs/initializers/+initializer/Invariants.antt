@@ -1,4 +1,0 @@
-use Rattle.c_statements.proofs.initializers.+initializer.Given as goal
-
-abbrev pub decreases-initializer : goal.decreases-initializer
-decreases-initializer l = l.limits.room

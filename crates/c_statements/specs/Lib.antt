@@ -1,4 +1,0 @@
-pub mod Nested
-pub mod Scoped
-pub mod Forms
-pub mod Defined

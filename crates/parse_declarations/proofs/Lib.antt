@@ -1,0 +1,4 @@
+pub mod Declares
+pub mod Gathered
+pub mod Initials
+pub mod Scopes

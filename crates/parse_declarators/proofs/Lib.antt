@@ -1,0 +1,6 @@
+pub mod Lines
+pub mod Pointing
+pub mod Directs
+pub mod Nesting
+pub mod Listing
+pub mod Grouping

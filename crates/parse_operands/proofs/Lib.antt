@@ -1,0 +1,3 @@
+pub mod Postfixes
+pub mod Prefixes
+pub mod Primaries

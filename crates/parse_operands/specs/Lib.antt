@@ -1,0 +1,4 @@
+pub mod Named
+pub mod Nested
+pub mod Nodes
+pub mod Parts

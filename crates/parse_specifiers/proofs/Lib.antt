@@ -1,0 +1,3 @@
+pub mod Attributed
+pub mod Specifying
+pub mod Enumerating

@@ -1,0 +1,12 @@
+use Rattle.std.proofs.Common.{◌≡◌, length}
+use Rattle.c_grammar.specs.Rules.{GnuWords}
+use Rattle.parse_input.specs.Reads.{named, behind_items}
+use Rattle.parse_specifiers.proofs.attribute.gnu_words.Given as goal
+
+abbrev pub invariant-each : goal.invariant-each
+invariant-each l =
+    (named l.room GnuWords l.initial.input.tokens ≡ behind_items l.words (named l.room GnuWords l.input.tokens))
+    × (l.input.scope ≡ l.initial.input.scope)
+
+abbrev pub decreases-each : goal.decreases-each
+decreases-each l = length l.input.tokens

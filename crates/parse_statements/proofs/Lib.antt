@@ -1,0 +1,3 @@
+pub mod Fors
+pub mod Phrases
+pub mod Shapes
