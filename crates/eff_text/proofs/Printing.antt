@@ -1,21 +1,21 @@
 -- The lines of the warnings, one after the other, and that the warnings of a unit can be printed.
-use Rattle.std.proofs.Common.{◌≡◌, ℕ, ◌+◌, ◌≤◌, ◌<◌, zero, suc, List, [], ◌∷◌, length, map, take, get_or, All, Option, IsSomeAnd, slice_get, ap, ◌∙◌, arith}
+use Rattle.std.proofs.Common.{◌≡◌, ℕ, ◌+◌, ◌≤◌, ◌<◌, zero, suc, List, [], ◌∷◌, length, map, take, get_or, All, IsSomeAnd, slice_get, ap, ◌∙◌, arith}
 use Rattle.std.specs.List.Sorted.{IsStrictlyIncreasing}
 use Rattle.std.proofs.lemmas.List.{get_or-map, length-map}
 use Rattle.std.proofs.lemmas.List.Elements.{All-contains, Contains-get_or}
-use Rattle.core_unit.specs.declared.units.FunctionInfo.{FunctionInfo}
-use Rattle.core_unit.specs.declared.units.SiteInfo.{SiteInfo}
-use Rattle.core_unit.specs.Units.{UnitParts}
+use Rattle.built_unit.specs.declared.units.FunctionInfo.{FunctionInfo}
+use Rattle.built_unit.specs.declared.units.SiteInfo.{SiteInfo}
+use Rattle.built_unit.specs.Units.{UnitParts}
 use Rattle.c_text.specs.declared.place.LineCursor.{LineCursor}
 use Rattle.c_text.specs.Place.{LineColumn, IsAt, line_column}
-use Rattle.rt_base.specs.Outside.{Appends, AppendsPrefix}
+use Rattle.rt_base.specs.Outside.{SinkState, TakesAll, FailsWithin}
+use Rattle.rt_base.proofs.Pieces.{takes_next, fails_next}
 use Rattle.eff_check.specs.declared.ViolationKind.{ViolationKind}
 use Rattle.eff_check.specs.declared.ViolationKind.TheVariants.{Calls}
 use Rattle.eff_check.specs.declared.Warning.{Warning}
 use Rattle.eff_check.specs.Violations.{AreWarnings, IsWarned, IsViolation}
 use Rattle.eff_types.specs.declared.levels.Level.{Level}
 use Rattle.eff_text.specs.WarningText.{line_at, warning_line, warnings_text, IsNamed, ArePrintable}
-use Rattle.eff_text.proofs.Appending.{Appends-next, AppendsPrefix-next}
 
 -- the line from a cursor at the place of the warning
 line_of_cursor : (file source : List ℕ) (unit : UnitParts) (w : Warning) (cursor : LineCursor) → IsAt source cursor → cursor.place ≡ w.place → line_at file (record { line = cursor.line; column = cursor.column }) unit w.level w.kind ≡ warning_line file source unit w
@@ -24,20 +24,20 @@ line_of_cursor file source unit w cursor at here =
     ap (λ (p : LineColumn). line_at file p unit w.level w.kind) (at ∙ ap (line_column source) here)
 
 -- after the line of one warning more
-pub Appends-line : (file source : List ℕ) (unit : UnitParts) (ws : List Warning) (i : ℕ) (d : Warning) (cursor : LineCursor) (old between new : Option (List ℕ)) → i < length ws → IsAt source cursor → cursor.place ≡ (get_or ws i d).place → Appends old between (warnings_text file source unit (take i ws)) → Appends between new (line_at file (record { line = cursor.line; column = cursor.column }) unit (get_or ws i d).level (get_or ws i d).kind) → Appends old new (warnings_text file source unit (take (i + 1) ws))
-Appends-line file source unit ws i d cursor old between new within at here a b =
+pub takes_line : (file source : List ℕ) (unit : UnitParts) (ws : List Warning) (i : ℕ) (d : Warning) (cursor : LineCursor) (old between new : SinkState) → i < length ws → IsAt source cursor → cursor.place ≡ (get_or ws i d).place → TakesAll (warnings_text file source unit (take i ws)) old between → TakesAll (line_at file (record { line = cursor.line; column = cursor.column }) unit (get_or ws i d).level (get_or ws i d).kind) between new → TakesAll (warnings_text file source unit (take (i + 1) ws)) old new
+takes_line file source unit ws i d cursor old between new within at here a b =
     let e : line_at file (record { line = cursor.line; column = cursor.column }) unit (get_or ws i d).level (get_or ws i d).kind ≡ warning_line file source unit (get_or ws i d) =
     line_of_cursor file source unit (get_or ws i d) cursor at here in
-    let line : Appends between new (warning_line file source unit (get_or ws i d)) = rw e at b in
-    Appends-next (warning_line file source unit) ws i d old between new within a line
+    let line : TakesAll (warning_line file source unit (get_or ws i d)) between new = rw e at b in
+    takes_next (warning_line file source unit) ws i d old between new within a line
 
 -- after a fault within the line of a warning
-pub AppendsPrefix-line : (file source : List ℕ) (unit : UnitParts) (ws : List Warning) (i : ℕ) (d : Warning) (cursor : LineCursor) (old between new : Option (List ℕ)) → i < length ws → IsAt source cursor → cursor.place ≡ (get_or ws i d).place → Appends old between (warnings_text file source unit (take i ws)) → AppendsPrefix between new (line_at file (record { line = cursor.line; column = cursor.column }) unit (get_or ws i d).level (get_or ws i d).kind) → AppendsPrefix old new (warnings_text file source unit ws)
-AppendsPrefix-line file source unit ws i d cursor old between new within at here a b =
+pub fails_line : (file source : List ℕ) (unit : UnitParts) (ws : List Warning) (i : ℕ) (d : Warning) (cursor : LineCursor) (old between new : SinkState) → i < length ws → IsAt source cursor → cursor.place ≡ (get_or ws i d).place → TakesAll (warnings_text file source unit (take i ws)) old between → FailsWithin (line_at file (record { line = cursor.line; column = cursor.column }) unit (get_or ws i d).level (get_or ws i d).kind) between new → FailsWithin (warnings_text file source unit ws) old new
+fails_line file source unit ws i d cursor old between new within at here a b =
     let e : line_at file (record { line = cursor.line; column = cursor.column }) unit (get_or ws i d).level (get_or ws i d).kind ≡ warning_line file source unit (get_or ws i d) =
     line_of_cursor file source unit (get_or ws i d) cursor at here in
-    let line : AppendsPrefix between new (warning_line file source unit (get_or ws i d)) = rw e at b in
-    AppendsPrefix-next (warning_line file source unit) ws i d old between new within a line
+    let line : FailsWithin (warning_line file source unit (get_or ws i d)) between new = rw e at b in
+    fails_next (warning_line file source unit) ws i d old between new within a line
 
 -- the next warning stands behind this one
 pub place_before_next : (ws : List Warning) (i : ℕ) (d e : Warning) → IsStrictlyIncreasing (map (λ w. w.place) ws) → i + 1 < length ws → (get_or ws i d).place ≤ (get_or ws (i + 1) e).place

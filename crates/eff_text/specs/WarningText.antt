@@ -6,7 +6,7 @@ use Rattle.std.specs.List.Sorted.{IsStrictlyIncreasing}
 use Rattle.std.specs.Option.{option_map_or}
 use Rattle.eff_types.specs.declared.levels.Level.{Level}
 use Rattle.eff_types.specs.declared.levels.Level.TheVariants.{Plain, NonAllocating, NonBlocking}
-use Rattle.core_unit.specs.Units.{UnitParts}
+use Rattle.built_unit.specs.Units.{UnitParts}
 use Rattle.c_text.specs.Place.{LineColumn, line_column}
 use Rattle.eff_check.specs.declared.ViolationKind.{ViolationKind}
 use Rattle.eff_check.specs.declared.ViolationKind.TheVariants.{Calls}

@@ -1,17 +1,14 @@
 //! The printed text of warnings, in Clang's wording.
 #![tactic(auto)]
 
-ghost use Rattle.std.specs.Prelude.{◌≡◌, ◌<◌, ◌≤◌, length, OnOk, OnErr};
+ghost use Rattle.std.specs.Prelude.{◌≡◌};
 ghost use Rattle.std.specs.List.{flat_map};
 ghost use Rattle.c_text.specs.Place.{LineColumn};
-ghost use Rattle.rt_base.specs.Outside.{Rose, Appends, AppendsPrefix};
+ghost use Rattle.rt_base.specs.Outside.{IsWritten};
 ghost use Rattle.eff_text.specs.WarningText.{effect_name, call_line, line_at, warnings_text, IsNamed, ArePrintable};
 
-#[cfg(test)]
-mod tests;
-
+use built_unit::Unit;
 use c_text::LineCursor;
-use core_unit::Unit;
 use eff_check::{Verdicts, ViolationKind, Warning};
 use eff_types::Level;
 use itoa::Buffer;
@@ -29,10 +26,7 @@ pub fn write_warnings<S: Sink>(
     out: &mut S,
 ) -> Result<(), SinkFault>
     requires { ArePrintable source.now unit.now verdicts.now }
-    ensures all { OnOk result (Appends (S.taken out.old) (S.taken out.new) (warnings_text file.now source.now unit.now verdicts.now)) }
-    ensures part { OnErr result (AppendsPrefix (S.taken out.old) (S.taken out.new) (warnings_text file.now source.now unit.now verdicts.now)) }
-    ensures fault { OnErr result (Rose (S.faults out.old) (S.faults out.new)) }
-    ensures later { S.faults out.old ≤ S.faults out.new }
+    ensures { IsWritten (warnings_text file.now source.now unit.now verdicts.now) result (S.state out.old) (S.state out.new) }
 {
     let mut cursor = LineCursor::start();
     for warning in verdicts.warnings() {
@@ -51,10 +45,7 @@ fn write_warning<S: Sink>(
     out: &mut S,
 ) -> Result<(), SinkFault>
     requires { IsNamed unit.now warning.now.kind }
-    ensures all { OnOk result (Appends (S.taken out.old) (S.taken out.new) (line_at file.now (record { line = cursor.line; column = cursor.column }) unit.now warning.now.level warning.now.kind)) }
-    ensures part { OnErr result (AppendsPrefix (S.taken out.old) (S.taken out.new) (line_at file.now (record { line = cursor.line; column = cursor.column }) unit.now warning.now.level warning.now.kind)) }
-    ensures fault { OnErr result (Rose (S.faults out.old) (S.faults out.new)) }
-    ensures later { S.faults out.old ≤ S.faults out.new }
+    ensures { IsWritten (line_at file.now (record { line = cursor.line; column = cursor.column }) unit.now warning.now.level warning.now.kind) result (S.state out.old) (S.state out.new) }
 {
     let mut line = Buffer::new();
     let mut column = Buffer::new();
@@ -75,10 +66,7 @@ fn write_line<'a, S: Sink>(
     callee: &'a str,
     out: &mut S,
 ) -> Result<(), SinkFault>
-    ensures all { OnOk result (Appends (S.taken out.old) (S.taken out.new) (call_line file.now line.now column.now effect.now callee.now)) }
-    ensures part { OnErr result (AppendsPrefix (S.taken out.old) (S.taken out.new) (call_line file.now line.now column.now effect.now callee.now)) }
-    ensures fault { OnErr result (Rose (S.faults out.old) (S.faults out.new)) }
-    ensures later { S.faults out.old ≤ S.faults out.new }
+    ensures { IsWritten (call_line file.now line.now column.now effect.now callee.now) result (S.state out.old) (S.state out.new) }
 {
     let pieces = [
         file,
@@ -113,10 +101,7 @@ fn effect_name(level: Level) -> &'static str
 /// Writes the pieces one after the other: all of their bytes, or at SinkFault, which comes only where the sink's count of
 /// faults rose, a prefix of them.
 pub fn write_pieces<S: Sink>(pieces: &[&str], out: &mut S) -> Result<(), SinkFault>
-    ensures all { OnOk result (Appends (S.taken out.old) (S.taken out.new) (flat_map (λ piece. piece.now) pieces.now)) }
-    ensures part { OnErr result (AppendsPrefix (S.taken out.old) (S.taken out.new) (flat_map (λ piece. piece.now) pieces.now)) }
-    ensures fault { OnErr result (Rose (S.faults out.old) (S.faults out.new)) }
-    ensures later { S.faults out.old ≤ S.faults out.new }
+    ensures { IsWritten (flat_map (λ piece. piece.now) pieces.now) result (S.state out.old) (S.state out.new) }
 {
     for piece in pieces {
         write_all(out, piece.as_bytes())?;

@@ -2,7 +2,7 @@
 use Rattle.std.proofs.Common.{◌≡◌, ℕ, ◌+◌, List, [], ◌∷◌, ◌++◌, reverse, decimal, ap, ◌∙◌}
 use Rattle.std.proofs.lemmas.List.{reverse-append}
 use Rattle.c_text.specs.Place.{line_column}
-use Rattle.core_unit.specs.Units.{UnitParts}
+use Rattle.built_unit.specs.Units.{UnitParts}
 use Rattle.ctx_set.specs.declared.steps.StackStep.{StackStep}
 use Rattle.eff_text.specs.WarningText.{function_name}
 use Rattle.reports.specs.RunText.{callers_text, caller_at, report_text, stack_text, head_lines, place_of}

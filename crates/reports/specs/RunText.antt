@@ -4,7 +4,7 @@ use Rattle.std.specs.Fmt.{signed_decimal}
 use Rattle.std.specs.List.{concat, flat_map}
 use Rattle.std.specs.Option.{option_map_or}
 use Rattle.c_text.specs.Place.{LineColumn, line_column}
-use Rattle.core_unit.specs.Units.{UnitParts}
+use Rattle.built_unit.specs.Units.{UnitParts}
 use Rattle.ctx_set.specs.declared.steps.StackStep.{StackStep}
 use Rattle.mcode.specs.declared.events.TrapKind.{TrapKind}
 use Rattle.mcode.specs.declared.events.TrapKind.TheVariants.{NullAccess, BadAccess, BadPointer, BadWord, Overflow, Division, Shift, NullCall, StackOverflow, BadFree, BadUnlock, NoreturnReturned, NoValue, Abort}

@@ -2,8 +2,6 @@
 #![tactic(auto)]
 
 mod stacks;
-#[cfg(test)]
-mod tests;
 mod text;
 
 pub use stacks::{StackCount, StackList, collect_one};

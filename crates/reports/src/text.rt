@@ -1,14 +1,14 @@
 //! The printed text of a run: its reports and the endings of its threads.
 
-ghost use Rattle.std.specs.Prelude.{◌≡◌, ◌++◌, ◌≤◌, length, reverse, All, OnOk, OnErr};
+ghost use Rattle.std.specs.Prelude.{◌≡◌, ◌++◌, ◌≤◌, length, reverse, All};
 ghost use Rattle.c_text.specs.Place.{line_column};
-ghost use Rattle.rt_base.specs.Outside.{Rose, Appends, AppendsPrefix};
+ghost use Rattle.rt_base.specs.Outside.{IsWritten};
 ghost use Rattle.eff_text.specs.WarningText.{function_name};
 ghost use Rattle.reports.specs.RunText.{reports_text, report_text, callers_text, caller_at, caller_line, head_lines, place_of, trap_name, end_text, thread_line};
 
 use crate::stacks::{StackCount, StackList};
+use built_unit::Unit;
 use c_text::line_column;
-use core_unit::Unit;
 use ctx_set::StackStep;
 use eff_text::write_pieces;
 use itoa::Buffer;
@@ -33,10 +33,7 @@ pub fn write_reports<S: Sink>(
 ) -> Result<(), SinkFault>
     requires short { length source.now ≤ 1048576 }
     requires within { All (λ site. site.place ≤ length source.now) unit.now.sites }
-    ensures all { OnOk result (Appends (S.taken out.old) (S.taken out.new) (reports_text source.now unit.now stacks.now)) }
-    ensures part { OnErr result (AppendsPrefix (S.taken out.old) (S.taken out.new) (reports_text source.now unit.now stacks.now)) }
-    ensures fault { OnErr result (Rose (S.faults out.old) (S.faults out.new)) }
-    ensures later { S.faults out.old ≤ S.faults out.new }
+    ensures { IsWritten (reports_text source.now unit.now stacks.now) result (S.state out.old) (S.state out.new) }
 {
     'each: for counted in stacks.as_slice() {
         write_report(unit, source, counted, out)?;
@@ -53,10 +50,7 @@ fn write_report<S: Sink>(
 ) -> Result<(), SinkFault>
     requires short { length source.now ≤ 1048576 }
     requires within { All (λ site. site.place ≤ length source.now) unit.now.sites }
-    ensures all { OnOk result (Appends (S.taken out.old) (S.taken out.new) (report_text source.now unit.now counted.now)) }
-    ensures part { OnErr result (AppendsPrefix (S.taken out.old) (S.taken out.new) (report_text source.now unit.now counted.now)) }
-    ensures fault { OnErr result (Rose (S.faults out.old) (S.faults out.new)) }
-    ensures later { S.faults out.old ≤ S.faults out.new }
+    ensures { IsWritten (report_text source.now unit.now counted.now) result (S.state out.old) (S.state out.new) }
 {
     let Some((reached, callers)) = counted.stack.as_slice().split_last() else {
         return Ok(());
@@ -70,10 +64,7 @@ fn write_report<S: Sink>(
 // Writes the first line of a report and the line of the reached function.
 #[tactic(auto, unfolding(crate::specs::RunText::head_lines))]
 fn write_head<'a, S: Sink>(name: &'a str, count: &'a str, out: &mut S) -> Result<(), SinkFault>
-    ensures all { OnOk result (Appends (S.taken out.old) (S.taken out.new) (head_lines name.now count.now)) }
-    ensures part { OnErr result (AppendsPrefix (S.taken out.old) (S.taken out.new) (head_lines name.now count.now)) }
-    ensures fault { OnErr result (Rose (S.faults out.old) (S.faults out.new)) }
-    ensures later { S.faults out.old ≤ S.faults out.new }
+    ensures { IsWritten (head_lines name.now count.now) result (S.state out.old) (S.state out.new) }
 {
     let pieces = [
         "error: blocking-call: '",
@@ -98,10 +89,7 @@ fn write_callers<S: Sink>(
 ) -> Result<(), SinkFault>
     requires short { length source.now ≤ 1048576 }
     requires within { All (λ site. site.place ≤ length source.now) unit.now.sites }
-    ensures all { OnOk result (Appends (S.taken out.old) (S.taken out.new) (callers_text source.now unit.now 1 site (reverse callers.now))) }
-    ensures part { OnErr result (AppendsPrefix (S.taken out.old) (S.taken out.new) (callers_text source.now unit.now 1 site (reverse callers.now))) }
-    ensures fault { OnErr result (Rose (S.faults out.old) (S.faults out.new)) }
-    ensures later { S.faults out.old ≤ S.faults out.new }
+    ensures { IsWritten (callers_text source.now unit.now 1 site (reverse callers.now)) result (S.state out.old) (S.state out.new) }
 {
     let mut index: usize = 1;
     let mut rest = callers;
@@ -125,10 +113,7 @@ fn write_caller<S: Sink>(
 ) -> Result<(), SinkFault>
     requires short { length source.now ≤ 1048576 }
     requires within { All (λ site. site.place ≤ length source.now) unit.now.sites }
-    ensures all { OnOk result (Appends (S.taken out.old) (S.taken out.new) (caller_at index (function_name unit.now function) (line_column source.now (place_of unit.now site)))) }
-    ensures part { OnErr result (AppendsPrefix (S.taken out.old) (S.taken out.new) (caller_at index (function_name unit.now function) (line_column source.now (place_of unit.now site)))) }
-    ensures fault { OnErr result (Rose (S.faults out.old) (S.faults out.new)) }
-    ensures later { S.faults out.old ≤ S.faults out.new }
+    ensures { IsWritten (caller_at index (function_name unit.now function) (line_column source.now (place_of unit.now site))) result (S.state out.old) (S.state out.new) }
 {
     let mut index_digits = Buffer::new();
     let mut line_digits = Buffer::new();
@@ -149,10 +134,7 @@ fn write_caller_line<'a, S: Sink>(
     column: &'a str,
     out: &mut S,
 ) -> Result<(), SinkFault>
-    ensures all { OnOk result (Appends (S.taken out.old) (S.taken out.new) (caller_line index.now name.now line.now column.now)) }
-    ensures part { OnErr result (AppendsPrefix (S.taken out.old) (S.taken out.new) (caller_line index.now name.now line.now column.now)) }
-    ensures fault { OnErr result (Rose (S.faults out.old) (S.faults out.new)) }
-    ensures later { S.faults out.old ≤ S.faults out.new }
+    ensures { IsWritten (caller_line index.now name.now line.now column.now) result (S.state out.old) (S.state out.new) }
 {
     let pieces = ["  #", index, " ", name, " ", line, ":", column, "\n"];
     write_pieces(&pieces, out)
@@ -186,10 +168,7 @@ fn place_of(unit: &Unit, source: &[u8], site: u32) -> u32
 /// the line was taken. It takes no memory.
 #[tactic(auto, unfolding(crate::specs::RunText::thread_line))]
 pub fn write_ending<S: Sink>(number: u32, end: End, out: &mut S) -> Result<(), SinkFault>
-    ensures all { OnOk result (Appends (S.taken out.old) (S.taken out.new) (thread_line number end)) }
-    ensures part { OnErr result (AppendsPrefix (S.taken out.old) (S.taken out.new) (thread_line number end)) }
-    ensures fault { OnErr result (Rose (S.faults out.old) (S.faults out.new)) }
-    ensures later { S.faults out.old ≤ S.faults out.new }
+    ensures { IsWritten (thread_line number end) result (S.state out.old) (S.state out.new) }
 {
     let mut number_digits = Buffer::new();
     let mut end_digits = Buffer::new();

@@ -1,4 +1,5 @@
-pub mod Told
+pub mod Contents
+pub mod Pieces
 pub mod Faults
 pub mod Counts
 pub mod ReadChain

@@ -8,11 +8,11 @@ use Rattle.rt_base.specs.declared.listed.MemFile.{MemFile}
 abbrev pub file_named : List MemFile → List ℕ → Option MemFile
 file_named files name = find (λ file. bytes_eq file.name name) files
 
--- the bytes of the first file of this name; of a name that the list lacks nothing is told
+-- the contents of the first file of this name; of a name that the list lacks nothing is told
 abbrev pub bytes_named : List MemFile → List ℕ → Option (List ℕ)
 bytes_named files name = option_map (λ file. file.bytes) (file_named files name)
 
--- the bytes of the first file of this name; a name that the list lacks is an empty file
+-- the contents of the first file of this name; a name that the list lacks is an empty file
 abbrev pub bytes_or_none : List MemFile → List ℕ → List ℕ
 bytes_or_none files name = option_map_or (λ file. file.bytes) (file_named files name) []
 

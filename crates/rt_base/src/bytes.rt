@@ -5,7 +5,7 @@ use std::alloc::{AllocError, Global};
 use std::marker::Model;
 
 /// A list of bytes that owns its memory.
-#[derive(Debug, Drop)]
+#[derive(Drop)]
 pub struct Bytes {
     items: Vec<u8>,
 }
@@ -76,7 +76,7 @@ impl Bytes {
 }
 
 /// A list of call numbers, from 0.
-#[derive(Debug, Drop)]
+#[derive(Drop)]
 pub struct CallList {
     items: Vec<u32>,
 }

@@ -26,7 +26,7 @@ pub struct HostFiles<R: rt::Files + AllocGlobal + Drop> {
 impl<R: rt::Files + AllocGlobal + Drop> HostFiles<R> {
     /// The files that this runtime reaches, with no fault counted.
     pub fn new(rt: R) -> HostFiles<R>
-        ensures { (q : List ℕ) → ⟦<HostFiles<R> as Files>⟧.faults result q ≡ 0 }
+        ensures { (q : List ℕ) → (⟦<HostFiles<R> as Files>⟧.state result).faults q ≡ 0 }
     {
         HostFiles {
             rt,
@@ -71,9 +71,7 @@ impl<R: rt::Files + AllocGlobal + Drop> HostFiles<R> {
 }
 
 impl<R: rt::Files + AllocGlobal + Drop> Files for HostFiles<R> {
-    ghost told = { λ _ _. None };
-
-    ghost faults = { λ h _. h.faults };
+    ghost state = { λ h. record { contents = λ _. None; faults = λ _. h.faults } };
 
     fn read(&mut self, name: &str, at: u64, buf: &mut [u8]) -> Result<usize, Failed> {
         match self.read_at(name, at, buf) {
@@ -96,16 +94,14 @@ pub struct HostSink<R: Print + Drop> {
 impl<R: Print + Drop> HostSink<R> {
     /// The standard output that this runtime reaches, with no fault counted.
     pub fn new(rt: R) -> HostSink<R>
-        ensures { ⟦<HostSink<R> as Sink>⟧.faults result ≡ 0 }
+        ensures { (⟦<HostSink<R> as Sink>⟧.state result).faults ≡ 0 }
     {
         HostSink { rt, faults: 0 }
     }
 }
 
 impl<R: Print + Drop> Sink for HostSink<R> {
-    ghost taken = { λ _. None };
-
-    ghost faults = { λ h. h.faults };
+    ghost state = { λ h. record { taken = None; faults = h.faults } };
 
     fn write(&mut self, bytes: &[u8]) -> Result<usize, Failed> {
         match self.rt.write_some(bytes) {

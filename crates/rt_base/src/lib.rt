@@ -20,6 +20,3 @@ pub use outside::{Failed, Files, Sink};
 pub use reading::{ReadRefusal, read_all};
 pub use sure::{SureFiles, SureSink};
 pub use writing::{SinkFault, write_all};
-
-#[cfg(test)]
-mod tests;

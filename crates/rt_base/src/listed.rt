@@ -10,7 +10,7 @@ use std::alloc::{AllocError, Global};
 use std::marker::Model;
 
 /// A file in memory: its name, its bytes, and how many reads of it failed.
-#[derive(Debug, Drop)]
+#[derive(Drop)]
 pub struct MemFile {
     /// The name, as the bytes of a text.
     pub name: Bytes,
@@ -30,7 +30,7 @@ impl MemFile {
 }
 
 /// A list of files, where the first of a name counts.
-#[derive(Debug, Drop)]
+#[derive(Drop)]
 pub struct FileList {
     items: Vec<MemFile>,
 }

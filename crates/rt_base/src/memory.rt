@@ -11,7 +11,7 @@ use std::alloc::{AllocError, Global};
 use std::marker::Model;
 
 /// Files in memory, some of whose reads fail. A read of a name that the list lacks fails too.
-#[derive(Debug, Drop)]
+#[derive(Drop)]
 pub struct MemFiles {
     files: FileList,
     failing: CallList,
@@ -72,9 +72,7 @@ impl MemFiles {
 }
 
 impl Files for MemFiles {
-    ghost told = { λ m name. bytes_named m.files name };
-
-    ghost faults = { λ m name. faults_named m.files m.lacking name };
+    ghost state = { λ m. record { contents = λ name. bytes_named m.files name; faults = λ name. faults_named m.files m.lacking name } };
 
     ghost read_gives = { MemReads };
 
@@ -91,7 +89,7 @@ impl Files for MemFiles {
 }
 
 /// A sink that keeps what it takes in memory, and some of whose writes fail.
-#[derive(Debug, Drop)]
+#[derive(Drop)]
 pub struct MemSink {
     bytes: Vec<u8>,
     room: u32,
@@ -162,9 +160,7 @@ impl MemSink {
 }
 
 impl Sink for MemSink {
-    ghost taken = { λ s. Some s.bytes };
-
-    ghost faults = { λ s. s.faults };
+    ghost state = { λ s. record { taken = Some s.bytes; faults = s.faults } };
 
     ghost write_gives = { MemWrites };
 

@@ -1,6 +1,6 @@
 // A file read to its end.
-ghost use Rattle.std.specs.Prelude.{◌≡◌, ℕ, ◌≤◌, List, length, IfOk};
-ghost use Rattle.rt_base.specs.Outside.{Rose, IsTold, IsLongerThan};
+ghost use Rattle.std.specs.Prelude.{◌≡◌, ◌≤◌, length, IfOk};
+ghost use Rattle.rt_base.specs.Outside.{Rose, IsContents, IsLongerThan, KeepsContents};
 ghost use Rattle.rt_base.specs.Reads.{ReadsToEnd, ReadsPast, ReadsToFault};
 
 use crate::bytes::Bytes;
@@ -33,10 +33,10 @@ pub fn read_all<F: Files>(
     name: &str,
     limit: u32,
 ) -> Result<Bytes, ReadRefusal>
-    ensures read { IfOk result (λ bytes. IsTold (F.told files.old name.now) bytes) }
+    ensures read { IfOk result (IsContents ((F.state files.old).contents name.now)) }
     ensures within { IfOk result (λ bytes. length bytes ≤ limit) }
-    ensures fault { result ≡ Err ReadRefusal.Fault → Rose (F.faults files.old name.now) (F.faults files.new name.now) }
-    ensures long { result ≡ Err ReadRefusal.Long → IsLongerThan (F.told files.old name.now) limit }
+    ensures fault { result ≡ Err ReadRefusal.Fault → Rose ((F.state files.old).faults name.now) ((F.state files.new).faults name.now) }
+    ensures long { result ≡ Err ReadRefusal.Long → IsLongerThan ((F.state files.old).contents name.now) limit }
 
     // What the reads of this call took, each begun where the bytes before it ended. So `Long` comes
     // exactly where they took more than `limit` bytes, want of memory aside.
@@ -44,8 +44,7 @@ pub fn read_all<F: Files>(
     ensures past { result ≡ Err ReadRefusal.Long → ReadsPast F.read_gives name.now files.old limit files.new }
     ensures to_fault { result ≡ Err ReadRefusal.Fault → ReadsToFault F.read_gives name.now files.old limit files.new }
 
-    ensures later { (q : List ℕ) → F.faults files.old q ≤ F.faults files.new q }
-    ensures same { (q : List ℕ) → F.told files.new q ≡ F.told files.old q }
+    ensures kept { KeepsContents (F.state files.old) (F.state files.new) }
 {
     let mut bytes = Bytes::new(alloc);
     let mut piece = [0u8; PIECE];

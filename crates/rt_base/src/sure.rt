@@ -9,7 +9,7 @@ use crate::taken::TakenBytes;
 use std::marker::Model;
 
 /// Files in memory that never fail. A name that they lack is an empty file.
-#[derive(Debug, Drop)]
+#[derive(Drop)]
 pub struct SureFiles {
     files: FileList,
 }
@@ -33,9 +33,7 @@ impl SureFiles {
 }
 
 impl Files for SureFiles {
-    ghost told = { λ files name. Some (bytes_or_none files name) };
-
-    ghost faults = { λ _ _. 0 };
+    ghost state = { λ files. record { contents = λ name. Some (bytes_or_none files name); faults = λ _. 0 } };
 
     ghost read_gives = { SureReads };
 
@@ -73,9 +71,7 @@ impl SureSink {
 }
 
 impl Sink for SureSink {
-    ghost taken = { λ taken. Some taken };
-
-    ghost faults = { λ _. 0 };
+    ghost state = { λ taken. record { taken = Some taken; faults = 0 } };
 
     ghost write_gives = { SureWrites };
 

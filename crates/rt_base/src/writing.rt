@@ -1,6 +1,6 @@
 // A piece written whole.
-ghost use Rattle.std.specs.Prelude.{◌≡◌, ℕ, ◌≤◌, length, OnOk, OnErr};
-ghost use Rattle.rt_base.specs.Outside.{Rose, Appends, AppendsPrefix};
+ghost use Rattle.std.specs.Prelude.{length, OnOk, OnErr};
+ghost use Rattle.rt_base.specs.Outside.{IsWritten};
 ghost use Rattle.rt_base.specs.Writes.{Writes, WritesToFault};
 
 use crate::outside::Sink;
@@ -12,15 +12,11 @@ pub struct SinkFault;
 /// Writes all of a piece, by as many writes as the sink needs. At a fault, which comes only where
 /// the sink's count of faults rose, a prefix of the piece was taken. It takes no memory.
 pub fn write_all<S: Sink>(out: &mut S, bytes: &[u8]) -> Result<(), SinkFault>
-    ensures all { OnOk result (Appends (S.taken out.old) (S.taken out.new) bytes.now) }
-    ensures part { OnErr result (AppendsPrefix (S.taken out.old) (S.taken out.new) bytes.now) }
-    ensures fault { OnErr result (Rose (S.faults out.old) (S.faults out.new)) }
+    ensures written { IsWritten bytes.now result (S.state out.old) (S.state out.new) }
 
     // What the writes of this call took, each begun where the bytes before it ended.
     ensures to_end { OnOk result (Writes S.write_gives bytes.now out.old (length bytes.now) out.new) }
     ensures to_fault { OnErr result (WritesToFault S.write_gives bytes.now out.old out.new) }
-
-    ensures later { S.faults out.old ≤ S.faults out.new }
 {
     let mut written = 0;
     while written < bytes.len() {

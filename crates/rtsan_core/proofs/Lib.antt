@@ -1,8 +1,9 @@
-pub mod Runnable
-pub mod Stacks
+pub mod Linked
 pub mod RunTexts
-pub mod Only
-pub mod Stepped
+pub mod Climbing
 pub mod Sources
-pub mod Causes
-pub mod Commanded
+pub mod Running
+pub mod Jobs
+pub mod Outcomes
+pub mod Stops
+pub mod Endings

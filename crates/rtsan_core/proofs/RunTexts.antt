@@ -1,28 +1,27 @@
--- Which part of a run's text was written, by what was written of its three pieces.
-use Rattle.std.proofs.Common.{List, ℕ, ◌++◌, Option}
-use Rattle.core_unit.specs.Units.{UnitParts}
+-- What was written of the text of a run, by what was written of its three pieces.
+use Rattle.std.proofs.Common.{List, ℕ, ◌++◌, Result}
+use Rattle.built_unit.specs.Units.{UnitParts}
 use Rattle.eff_check.specs.declared.Warning.{Warning}
 use Rattle.eff_text.specs.WarningText.{warnings_text}
-use Rattle.reports.specs.RunText.{reports_text, thread_line}
-use Rattle.reports.specs.declared.stacks.StackCount.{StackCount}
-use Rattle.rt_base.specs.Outside.{Appends, AppendsPrefix}
-use Rattle.rt_base.proofs.Told.{AppendsPrefix-longer, Appends-then-prefix}
-use Rattle.src_model.specs.declared.runs.End.{End}
-use Rattle.rtsan_core.specs.Lines.{run_texts}
+use Rattle.reports.specs.RunText.{reports_text}
+use Rattle.rt_base.specs.Outside.{SinkState, TakesAll, FailsWithin, IsWritten}
+use Rattle.rt_base.proofs.Pieces.{fails_longer, takes_then_fails, written_behind}
+use Rattle.rtsan_core.specs.declared.finished.Finished.{Finished}
+use Rattle.rtsan_core.specs.Runs.{run_text, endings_text}
 
-pub part_of_warnings : (file source : List ℕ) (unit : UnitParts) (warnings : List Warning) (stacks : List StackCount) (end : End) (old new : Option (List ℕ)) → AppendsPrefix old new (warnings_text file source unit warnings) → AppendsPrefix old new (run_texts file source unit warnings stacks end)
-unfolding run_texts
-part_of_warnings file source unit warnings stacks end old new p =
-    AppendsPrefix-longer old new (warnings_text file source unit warnings) (reports_text source unit stacks ++ thread_line 0 end) p
+pub fault_in_warnings : (file source : List ℕ) (unit : UnitParts) (warnings : List Warning) (finished : Finished) (old new : SinkState) → FailsWithin (warnings_text file source unit warnings) old new → FailsWithin (run_text file source unit warnings finished) old new
+unfolding run_text
+fault_in_warnings file source unit warnings finished old new f =
+    fails_longer old new (warnings_text file source unit warnings) (reports_text source unit finished.stacks ++ endings_text finished.threads) f
 
-pub part_of_reports : (file source : List ℕ) (unit : UnitParts) (warnings : List Warning) (stacks : List StackCount) (end : End) (old between new : Option (List ℕ)) → Appends old between (warnings_text file source unit warnings) → AppendsPrefix between new (reports_text source unit stacks) → AppendsPrefix old new (run_texts file source unit warnings stacks end)
-unfolding run_texts
-part_of_reports file source unit warnings stacks end old between new a p =
-    Appends-then-prefix old between new (warnings_text file source unit warnings) (reports_text source unit stacks ++ thread_line 0 end) a
-    (AppendsPrefix-longer between new (reports_text source unit stacks) (thread_line 0 end) p)
+pub fault_in_reports : (file source : List ℕ) (unit : UnitParts) (warnings : List Warning) (finished : Finished) (old between new : SinkState) → TakesAll (warnings_text file source unit warnings) old between → FailsWithin (reports_text source unit finished.stacks) between new → FailsWithin (run_text file source unit warnings finished) old new
+unfolding run_text
+fault_in_reports file source unit warnings finished old between new a f =
+    takes_then_fails old between new (warnings_text file source unit warnings) (reports_text source unit finished.stacks ++ endings_text finished.threads) a
+    (fails_longer between new (reports_text source unit finished.stacks) (endings_text finished.threads) f)
 
-pub part_of_ending : (file source : List ℕ) (unit : UnitParts) (warnings : List Warning) (stacks : List StackCount) (end : End) (old first second new : Option (List ℕ)) → Appends old first (warnings_text file source unit warnings) → Appends first second (reports_text source unit stacks) → AppendsPrefix second new (thread_line 0 end) → AppendsPrefix old new (run_texts file source unit warnings stacks end)
-unfolding run_texts
-part_of_ending file source unit warnings stacks end old first second new a b p =
-    Appends-then-prefix old first new (warnings_text file source unit warnings) (reports_text source unit stacks ++ thread_line 0 end) a
-    (Appends-then-prefix first second new (reports_text source unit stacks) (thread_line 0 end) b p)
+pub endings_written : {T E : Type 0} (result : Result T E) (file source : List ℕ) (unit : UnitParts) (warnings : List Warning) (finished : Finished) (old first second new : SinkState) → TakesAll (warnings_text file source unit warnings) old first → TakesAll (reports_text source unit finished.stacks) first second → IsWritten (endings_text finished.threads) result second new → IsWritten (run_text file source unit warnings finished) result old new
+unfolding run_text
+endings_written result file source unit warnings finished old first second new a b w =
+    written_behind result old first new (warnings_text file source unit warnings) (reports_text source unit finished.stacks ++ endings_text finished.threads) a
+    (written_behind result first second new (reports_text source unit finished.stacks) (endings_text finished.threads) b w)

@@ -1,9 +1,14 @@
 -- The command: what the words after the program's name ask.
-use Rattle.std.specs.Prelude.{ℕ, ◌==◌, Bool, false, not, List, [], ◌∷◌, Option, Some, None, if◌then◌else◌, codes}
+use Rattle.std.specs.Borrow.{Bor}
+use Rattle.std.specs.Prelude.{ℕ, ◌==◌, Bool, false, not, List, [], ◌∷◌, map, Option, Some, None, if◌then◌else◌, codes}
 use Rattle.std.specs.Str.{bytes_eq}
 use Rattle.rtsan_core.specs.declared.words.Command.{Command}
 use Rattle.rtsan_core.specs.declared.words.Job.{Job}
 use Rattle.rtsan_core.specs.declared.words.Job.TheVariants.{Check, Step}
+
+-- the words as texts
+abbrev pub texts : List (Bor (List ℕ)) → List (List ℕ)
+texts words = map (λ word. word.now) words
 
 -- a file's name isn't empty and doesn't begin with `-`
 abbrev pub is_file_name : List ℕ → Bool

@@ -1,7 +1,9 @@
 pub mod Commands
-pub mod Lines
+pub mod Causes
+pub mod Rungs
 pub mod Runs
-pub mod Answers
-pub mod Refusals
-pub mod Printed
+pub mod Ladder
+pub mod Outcomes
+pub mod Rows
+pub mod Found
 pub mod Statuses

@@ -1,27 +1,26 @@
--- What a run leaves, of a unit that can be run.
-use Rattle.std.specs.Prelude.{◌≡◌, ℕ, ◌≤◌, List, [], ◌∷◌, length, None, codes}
-use Rattle.std.specs.Option.{option_to_list}
-use Rattle.core_unit.specs.Units.{UnitParts}
+-- What a run leaves, and the status and the text that it has.
+use Rattle.std.specs.Prelude.{◌≡◌, ℕ, ◌≤◌, Bool, true, false, nat_lt, List, [], ◌∷◌, ◌++◌, length, None, codes}
+use Rattle.std.specs.List.{flat_map, list_any}
+use Rattle.built_unit.specs.Units.{UnitParts}
 use Rattle.c_codegen.specs.Unit.{IsEntry, IsFirstMissing, unit_nodes, node_limit}
+use Rattle.eff_check.specs.declared.Warning.{Warning}
+use Rattle.eff_text.specs.WarningText.{warnings_text}
 use Rattle.mcode.specs.Machine.{Program}
+use Rattle.reports.specs.RunText.{reports_text, thread_line}
+use Rattle.reports.specs.Totals.{counted}
+use Rattle.src_model.specs.declared.runs.End.{End}
+use Rattle.src_model.specs.declared.runs.End.TheVariants.{Returned, Exited, Trapped as EndTrapped, Halted, Stopped as EndStopped, Waiting, Full}
 use Rattle.src_model.specs.Follows.{Behaves}
 use Rattle.src_model.specs.Context.{report_stacks}
 use Rattle.src_model.specs.Run.{IsRun, machine_after_trace}
-use Rattle.reports.specs.Totals.{counted}
-use Rattle.thread_run.specs.declared.running.Ran.{Ran}
 use Rattle.rtsan_core.specs.declared.finished.Ended.{Ended}
 use Rattle.rtsan_core.specs.declared.finished.Finished.{Finished}
+use Rattle.rtsan_core.specs.declared.status.Status.{Status}
+use Rattle.rtsan_core.specs.declared.status.Status.TheVariants.{Clean, Warned, Reported, Trapped, Stopped}
 
 -- the entry of a run is the function `main` (C17 5.1.2.2.1)
 abbrev pub entry_name : List ℕ
 entry_name = codes "main"
-
--- the unit can be run from this function: it is the entry, each called function has a definition, and the definitions aren't
--- too many nodes
-pub record IsRunnable (unit : UnitParts) (entry : ℕ) : Type 0 where
-  pub starts : IsEntry unit entry_name entry
-  pub linked : IsFirstMissing unit None
-  pub short : unit_nodes unit ≤ node_limit
 
 -- what is left of the one thread: its trace is the run of the unit from the entry, the machine is where that trace led the
 -- code, and the numbers are those of the trace; nothing suppresses a report yet
@@ -32,18 +31,6 @@ pub record IsEndedThread (unit : UnitParts) (code : Program) (entry : ℕ) (ende
   pub events : ended.events ≡ length ended.trace
   pub reports : ended.reports ≡ length (report_stacks unit ended.trace)
   pub suppressed : ended.suppressed ≡ 0
-
--- what is left of a thread that ran alone, of which at most one report stands
-abbrev pub ended_of : Ran → Ended
-ended_of ran = record {
-  number = 0;
-  end = ran.end;
-  events = ran.events;
-  reports = length (option_to_list ran.report);
-  suppressed = 0;
-  trace = ran.trace;
-  machine = ran.machine;
-}
 
 -- what a run of the unit from its entry leaves: code that does what the source does, its one thread, and totals that are
 -- the sums over its trace
@@ -57,3 +44,52 @@ pub record IsFinished (unit : UnitParts) (entry : ℕ) (finished : Finished) : T
   pub total : finished.total ≡ length (report_stacks unit ended.trace)
   pub unique : finished.unique ≡ length finished.stacks
   pub suppressed : finished.suppressed ≡ 0
+
+abbrev pub is_full : End → Bool
+is_full Full = true
+is_full end = false
+
+abbrev pub is_trapped : End → Bool
+is_trapped (EndTrapped kind) = true
+is_trapped end = false
+
+abbrev pub is_stopped : End → Bool
+is_stopped EndStopped = true
+is_stopped Waiting = true
+is_stopped end = false
+
+abbrev pub has_full : Finished → Bool
+has_full finished = list_any (λ thread. is_full thread.end) finished.threads
+
+abbrev pub has_trapped : Finished → Bool
+has_trapped finished = list_any (λ thread. is_trapped thread.end) finished.threads
+
+abbrev pub has_stopped : Finished → Bool
+has_stopped finished = list_any (λ thread. is_stopped thread.end) finished.threads
+
+abbrev pub warned_status : List Warning → Status
+warned_status [] = Clean
+warned_status (warning ∷ warnings) = Warned
+
+-- the first that applies: reported (or no room for a report), trapped, stopped, and else what the warnings say
+abbrev pub status_by : (reported full trapped stopped : Bool) → Status → Status
+status_by true full trapped stopped otherwise = Reported
+status_by false true trapped stopped otherwise = Reported
+status_by false false true stopped otherwise = Trapped
+status_by false false false true otherwise = Stopped
+status_by false false false false otherwise = otherwise
+
+-- the status of a run, by what it left and by the warnings
+abbrev pub run_status : List Warning → Finished → Status
+run_status warnings finished =
+    status_by (nat_lt 0 finished.total) (has_full finished) (has_trapped finished) (has_stopped finished)
+    (warned_status warnings)
+
+-- how the threads ended, a line for each
+abbrev pub endings_text : List Ended → List ℕ
+endings_text threads = flat_map (λ thread. thread_line thread.number thread.end) threads
+
+-- the text of a run, by what it left: the warnings, the reports, and the endings
+unfoldable pub run_text : List ℕ → List ℕ → UnitParts → List Warning → Finished → List ℕ
+run_text file source unit warnings finished =
+    warnings_text file source unit warnings ++ (reports_text source unit finished.stacks ++ endings_text finished.threads)

@@ -2,6 +2,7 @@
 #![tactic(auto)]
 
 mod commands;
+mod ending;
 mod finished;
 mod printing;
 mod reading;
@@ -14,7 +15,5 @@ pub use commands::{check_unit, step_unit};
 pub use finished::{Ended, EndedList, Finished};
 pub use serving::{Gate, out_of_memory, serve};
 pub use status::{Outcome, Status};
+pub use stepping::law_one_run;
 pub use words::{Command, Job, WordsFault, read_words};
-
-#[cfg(test)]
-mod tests;

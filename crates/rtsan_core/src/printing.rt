@@ -1,31 +1,139 @@
 //! The texts of the answers, each written whole or up to the sink's fault.
 
-ghost use Rattle.std.specs.Prelude.{◌≡◌, ◌≤◌, ◌++◌, List, length, OnOk, OnErr, decimal};
-ghost use Rattle.rt_base.specs.Outside.{Appends, AppendsPrefix, Rose};
-ghost use Rattle.rtsan_core.specs.Lines.{read_fault, usage, no_memory, not_built, source_too_long, misspelled, unread, refused_line, refusal_text, fault_text, warned, unlinked, warned_status, ended_status, run_status, run_texts, ran};
-ghost use Rattle.rtsan_core.specs.Refusals.{refused, uncompiled, IsPlacedIn, IsNamedIn};
-ghost use Rattle.rtsan_core.specs.Printed.{IsPrinted};
-ghost use Rattle.eff_text.specs.WarningText.{ArePrintable};
-ghost use Rattle.built_form.specs.Built.{AreCallsWithin};
-ghost use Rattle.ctx_set.specs.declared.steps.StackStep.{StackStep};
-ghost use Rattle.reports.specs.Totals.{counted};
+ghost use Rattle.std.specs.Prelude.{◌≡◌, None, Some, decimal};
+ghost use Rattle.rt_base.specs.Outside.{IsWritten};
+ghost use Rattle.rtsan_core.specs.declared.status.Status.TheVariants.{Refused as StatusRefused};
+ghost use Rattle.rtsan_core.specs.Causes.{Cause, NoCommand, OutOfMemory, Unreadable, Undefined, refused_line, refusal_text, fault_text};
+ghost use Rattle.rtsan_core.specs.Found.{IsReady, IsNamedIn, cause_of, cause_to_stop};
+ghost use Rattle.rtsan_core.specs.Outcomes.{IsPrinted, answer_of, answer_by};
+ghost use Rattle.rtsan_core.specs.Runs.{run_text, endings_text};
 
-use crate::reading::{Checked, Refusal};
+use crate::ending::{run_status, warned_status};
+use crate::finished::{Ended, Finished};
+use crate::reading::{Found, Refusal};
 use crate::status::Status;
+use built_unit::Unit;
 use c_codegen::CompileRefusal;
-use c_text::line_column;
-use core_unit::Unit;
-use eff_check::Verdicts;
 use eff_text::{write_pieces, write_warnings};
 use itoa::Buffer;
-use reports::{StackList, write_ending, write_reports};
+use reports::{write_ending, write_reports};
 use rt_base::{Sink, SinkFault, write_all};
-use src_model::End;
+
+/// The function that a run begins with.
+pub const ENTRY: &str = "main";
+
+/// Says that the words are no command.
+pub fn print_usage<S: Sink>(out: &mut S) -> Status
+    ensures { IsPrinted (answer_of NoCommand) result (S.state out.old) (S.state out.new) }
+{
+    print_text(out, Status::Usage, "usage: rtsan check FILE | step FILE\n")
+}
+
+/// Says that memory did not suffice.
+pub fn print_no_memory<S: Sink>(out: &mut S) -> Status
+    ensures { IsPrinted (answer_of OutOfMemory) result (S.state out.old) (S.state out.new) }
+{
+    print_text(out, Status::NoMemory, "rtsan: no memory\n")
+}
+
+/// Says why a file has no unit.
+pub fn print_refusal<S: Sink>(out: &mut S, file: &str, refusal: Refusal) -> Status
+    ensures { IsPrinted (answer_of (cause_of file.now refusal)) result (S.state out.old) (S.state out.new) }
+{
+    match refusal {
+        Refusal::ReadFault => print_read_fault(out, file),
+        Refusal::TooLong => print_text(out, Status::Limit, "rtsan: limit: source bytes\n"),
+        Refusal::Misspelled {
+            number,
+            line,
+            column,
+        } => print_refused(out, file, line, column, "text", number, fault_text(number)),
+        Refusal::Unread {
+            number,
+            line,
+            column,
+        } => print_refused(
+            out,
+            file,
+            line,
+            column,
+            "parse",
+            number,
+            refusal_text(number),
+        ),
+        Refusal::NotBuilt => print_text(out, Status::Refused, "rtsan: not built\n"),
+        Refusal::NoMemory => print_no_memory(out),
+    }
+}
+
+/// Says why a unit isn't compiled.
+pub fn print_uncompiled<S: Sink>(out: &mut S, unit: &Unit, refusal: CompileRefusal) -> Status
+    requires { IsNamedIn unit.now refusal }
+    ensures { IsPrinted (answer_of (cause_to_stop unit.now refusal)) result (S.state out.old) (S.state out.new) }
+{
+    match refusal {
+        CompileRefusal::NoEntry => print_unlinked(out, ENTRY),
+        CompileRefusal::Undefined(function) => print_unlinked(out, unit.target_name(function)),
+        CompileRefusal::Long => print_text(out, Status::Limit, "rtsan: limit: code\n"),
+        CompileRefusal::NoMemory => print_no_memory(out),
+    }
+}
+
+/// Writes the warnings of a unit.
+pub fn print_warnings<S: Sink>(out: &mut S, file: &str, found: &Found) -> Status
+    requires { IsReady found.now }
+    ensures { IsPrinted (answer_by file.now found.now.source found.now.unit found.now.verdicts None) result (S.state out.old) (S.state out.new) }
+{
+    let status = warned_status(&found.verdicts);
+    let source = found.source.as_slice();
+    match write_warnings(file, source, &found.unit, &found.verdicts, out) {
+        Ok(()) => status,
+        Err(SinkFault) => Status::WriteFault,
+    }
+}
+
+/// Writes the warnings of a unit, and what its run left: the reports, and the endings of its threads.
+pub fn print_run<S: Sink>(out: &mut S, file: &str, found: &Found, finished: &Finished) -> Status
+    requires { IsReady found.now }
+    ensures { IsPrinted (answer_by file.now found.now.source found.now.unit found.now.verdicts (Some finished.now)) result (S.state out.old) (S.state out.new) }
+{
+    let status = run_status(&found.verdicts, finished);
+    match write_run(out, file, found, finished) {
+        Ok(()) => status,
+        Err(SinkFault) => Status::WriteFault,
+    }
+}
+
+/// Writes the text of a run.
+#[tactic(auto, unfolding(crate::specs::Runs::run_text))]
+fn write_run<S: Sink>(
+    out: &mut S,
+    file: &str,
+    found: &Found,
+    finished: &Finished,
+) -> Result<(), SinkFault>
+    requires { IsReady found.now }
+    ensures { IsWritten (run_text file.now found.now.source found.now.unit found.now.verdicts finished.now) result (S.state out.old) (S.state out.new) }
+{
+    let source = found.source.as_slice();
+    write_warnings(file, source, &found.unit, &found.verdicts, out)?;
+    write_reports(&found.unit, source, &finished.stacks, out)?;
+    write_endings(finished.threads.as_slice(), out)
+}
+
+/// Writes how the threads ended, a line for each.
+fn write_endings<S: Sink>(threads: &[Ended], out: &mut S) -> Result<(), SinkFault>
+    ensures { IsWritten (endings_text threads.now) result (S.state out.old) (S.state out.new) }
+{
+    'each: for thread in threads {
+        write_ending(thread.number, thread.end, out)?;
+    }
+    Ok(())
+}
 
 /// Writes a text that stands whole in the program.
 fn print_text<S: Sink>(out: &mut S, status: Status, text: &str) -> Status
-    ensures printed { IsPrinted (record { status = status; text = text.now }) result (S.taken out.old) (S.taken out.new) (S.faults out.old) (S.faults out.new) }
-    ensures later { S.faults out.old ≤ S.faults out.new }
+    ensures { IsPrinted (record { status = status; text = text.now }) result (S.state out.old) (S.state out.new) }
 {
     match write_all(out, text.as_bytes()) {
         Ok(()) => status,
@@ -33,84 +141,9 @@ fn print_text<S: Sink>(out: &mut S, status: Status, text: &str) -> Status
     }
 }
 
-/// Says that the words are no command.
-pub fn print_usage<S: Sink>(out: &mut S) -> Status
-    ensures printed { IsPrinted usage result (S.taken out.old) (S.taken out.new) (S.faults out.old) (S.faults out.new) }
-    ensures later { S.faults out.old ≤ S.faults out.new }
-{
-    print_text(out, Status::Usage, "usage: rtsan check FILE | step FILE\n")
-}
-
-/// Says that memory did not suffice.
-pub fn print_no_memory<S: Sink>(out: &mut S) -> Status
-    ensures printed { IsPrinted no_memory result (S.taken out.old) (S.taken out.new) (S.faults out.old) (S.faults out.new) }
-    ensures later { S.faults out.old ≤ S.faults out.new }
-{
-    print_text(out, Status::NoMemory, "rtsan: no memory\n")
-}
-
-/// Says that the source is too long.
-pub fn print_source_too_long<S: Sink>(out: &mut S) -> Status
-    ensures printed { IsPrinted source_too_long result (S.taken out.old) (S.taken out.new) (S.faults out.old) (S.faults out.new) }
-    ensures later { S.faults out.old ≤ S.faults out.new }
-{
-    print_text(out, Status::Limit, "rtsan: limit: source bytes\n")
-}
-
-/// Says that the source isn't of the form that is built.
-fn print_not_built<S: Sink>(out: &mut S) -> Status
-    ensures printed { IsPrinted not_built result (S.taken out.old) (S.taken out.new) (S.faults out.old) (S.faults out.new) }
-    ensures later { S.faults out.old ≤ S.faults out.new }
-{
-    print_text(out, Status::Refused, "rtsan: not built\n")
-}
-
-/// Says that the spelling has its first fault of this number at this place.
-fn print_misspelled<S: Sink>(
-    out: &mut S,
-    file: &str,
-    source: &[u8],
-    number: u8,
-    place: u32,
-) -> Status
-    requires short { length source.now ≤ 1048576 }
-    requires within { place ≤ length source.now }
-    ensures printed { IsPrinted (misspelled file.now source.now number place) result (S.taken out.old) (S.taken out.new) (S.faults out.old) (S.faults out.new) }
-    ensures later { S.faults out.old ≤ S.faults out.new }
-{
-    let (line, column) = line_column(source, place);
-    match write_refused(out, file, line, column, "text", number, fault_text(number)) {
-        Ok(()) => Status::Refused,
-        Err(SinkFault) => Status::WriteFault,
-    }
-}
-
-/// Says that the token at this place is refused with this number.
-fn print_unread<S: Sink>(out: &mut S, file: &str, source: &[u8], number: u8, place: u32) -> Status
-    requires short { length source.now ≤ 1048576 }
-    requires within { place ≤ length source.now }
-    ensures printed { IsPrinted (unread file.now source.now number place) result (S.taken out.old) (S.taken out.new) (S.faults out.old) (S.faults out.new) }
-    ensures later { S.faults out.old ≤ S.faults out.new }
-{
-    let (line, column) = line_column(source, place);
-    match write_refused(
-        out,
-        file,
-        line,
-        column,
-        "parse",
-        number,
-        refusal_text(number),
-    ) {
-        Ok(()) => Status::Refused,
-        Err(SinkFault) => Status::WriteFault,
-    }
-}
-
 /// Says that a file could not be read.
-pub fn print_read_fault<S: Sink>(out: &mut S, file: &str) -> Status
-    ensures printed { IsPrinted (read_fault file.now) result (S.taken out.old) (S.taken out.new) (S.faults out.old) (S.faults out.new) }
-    ensures later { S.faults out.old ≤ S.faults out.new }
+fn print_read_fault<S: Sink>(out: &mut S, file: &str) -> Status
+    ensures { IsPrinted (answer_of (Unreadable file.now)) result (S.state out.old) (S.state out.new) }
 {
     match write_pieces(&["rtsan: read fault: ", file, "\n"], out) {
         Ok(()) => Status::ReadFault,
@@ -118,25 +151,9 @@ pub fn print_read_fault<S: Sink>(out: &mut S, file: &str) -> Status
     }
 }
 
-/// Says why a source has no unit.
-pub fn print_refusal<S: Sink>(out: &mut S, file: &str, source: &[u8], refusal: Refusal) -> Status
-    requires short { length source.now ≤ 1048576 }
-    requires within { IsPlacedIn source.now refusal }
-    ensures printed { IsPrinted (refused file.now source.now refusal) result (S.taken out.old) (S.taken out.new) (S.faults out.old) (S.faults out.new) }
-    ensures later { S.faults out.old ≤ S.faults out.new }
-{
-    match refusal {
-        Refusal::Misspelled { number, place } => print_misspelled(out, file, source, number, place),
-        Refusal::Unread { number, place } => print_unread(out, file, source, number, place),
-        Refusal::NotBuilt => print_not_built(out),
-        Refusal::NoMemory => print_no_memory(out),
-    }
-}
-
 /// Says that a function has no definition.
 fn print_unlinked<S: Sink>(out: &mut S, name: &str) -> Status
-    ensures printed { IsPrinted (unlinked name.now) result (S.taken out.old) (S.taken out.new) (S.faults out.old) (S.faults out.new) }
-    ensures later { S.faults out.old ≤ S.faults out.new }
+    ensures { IsPrinted (answer_of (Undefined name.now)) result (S.state out.old) (S.state out.new) }
 {
     match write_pieces(&["rtsan: unlinked: ", name, "\n"], out) {
         Ok(()) => Status::Unlinked,
@@ -144,116 +161,8 @@ fn print_unlinked<S: Sink>(out: &mut S, name: &str) -> Status
     }
 }
 
-/// Says why a unit isn't compiled.
-pub fn print_uncompiled<S: Sink>(out: &mut S, unit: &Unit, refusal: CompileRefusal) -> Status
-    requires { IsNamedIn unit.now refusal }
-    ensures printed { IsPrinted (uncompiled unit.now refusal) result (S.taken out.old) (S.taken out.new) (S.faults out.old) (S.faults out.new) }
-    ensures later { S.faults out.old ≤ S.faults out.new }
-{
-    match refusal {
-        CompileRefusal::NoEntry => print_unlinked(out, "main"),
-        CompileRefusal::Undefined(function) => print_unlinked(out, unit.target_name(function)),
-        CompileRefusal::Long => print_text(out, Status::Limit, "rtsan: limit: code\n"),
-        CompileRefusal::NoMemory => print_no_memory(out),
-    }
-}
-
-// The status of a unit with these warnings, where nothing else is said of it.
-fn warned_status(verdicts: &Verdicts) -> Status
-    ensures { result ≡ warned_status verdicts.now }
-{
-    if verdicts.warnings().is_empty() {
-        Status::Clean
-    } else {
-        Status::Warned
-    }
-}
-
-/// Writes the warnings of a unit.
-pub fn print_warnings<S: Sink>(out: &mut S, file: &str, source: &[u8], found: &Checked) -> Status
-    requires { ArePrintable source.now found.now.unit found.now.verdicts }
-    ensures printed { IsPrinted (warned file.now source.now found.now.unit found.now.verdicts) result (S.taken out.old) (S.taken out.new) (S.faults out.old) (S.faults out.new) }
-    ensures later { S.faults out.old ≤ S.faults out.new }
-{
-    let status = warned_status(&found.verdicts);
-    match write_warnings(file, source, &found.unit, &found.verdicts, out) {
-        Ok(()) => status,
-        Err(SinkFault) => Status::WriteFault,
-    }
-}
-
-// The status of a run without reports, by the ending of its thread.
-fn ended_status(end: End, verdicts: &Verdicts) -> Status
-    ensures { result ≡ ended_status end verdicts.now }
-{
-    match end {
-        End::Returned => warned_status(verdicts),
-        End::Exited(_) => warned_status(verdicts),
-        End::Trapped(_) => Status::Trapped,
-        End::Halted => warned_status(verdicts),
-        End::Stopped => Status::Stopped,
-        End::Waiting => Status::Stopped,
-        End::Full => Status::Reported,
-    }
-}
-
-// The status of a run with these stacks of its reports and this ending of its thread.
-fn run_status(stacks: &StackList, end: End, verdicts: &Verdicts) -> Status
-    ensures { (reports : List (List StackStep)) → stacks.now ≡ counted reports → result ≡ run_status reports end verdicts.now }
-{
-    if stacks.len() > 0 {
-        return Status::Reported;
-    }
-    ended_status(end, verdicts)
-}
-
-/// Writes the warnings of a unit, the reports of its run, and the ending of its thread.
-pub fn print_run<S: Sink>(
-    out: &mut S,
-    file: &str,
-    source: &[u8],
-    found: &Checked,
-    stacks: &StackList,
-    end: End,
-) -> Status
-    requires short { length source.now ≤ 1048576 }
-    requires printable { ArePrintable source.now found.now.unit found.now.verdicts }
-    requires placed { AreCallsWithin source.now found.now.unit }
-    ensures printed { (reports : List (List StackStep)) → stacks.now ≡ counted reports → IsPrinted (ran file.now source.now found.now.unit found.now.verdicts reports end) result (S.taken out.old) (S.taken out.new) (S.faults out.old) (S.faults out.new) }
-    ensures later { S.faults out.old ≤ S.faults out.new }
-{
-    let status = run_status(stacks, end, &found.verdicts);
-    match write_run(out, file, source, found, stacks, end) {
-        Ok(()) => status,
-        Err(SinkFault) => Status::WriteFault,
-    }
-}
-
-/// Writes the text of a run.
-#[tactic(auto, unfolding(crate::specs::Lines::run_texts))]
-fn write_run<S: Sink>(
-    out: &mut S,
-    file: &str,
-    source: &[u8],
-    found: &Checked,
-    stacks: &StackList,
-    end: End,
-) -> Result<(), SinkFault>
-    requires short { length source.now ≤ 1048576 }
-    requires printable { ArePrintable source.now found.now.unit found.now.verdicts }
-    requires placed { AreCallsWithin source.now found.now.unit }
-    ensures all { OnOk result (Appends (S.taken out.old) (S.taken out.new) (run_texts file.now source.now found.now.unit found.now.verdicts stacks.now end)) }
-    ensures part { OnErr result (AppendsPrefix (S.taken out.old) (S.taken out.new) (run_texts file.now source.now found.now.unit found.now.verdicts stacks.now end)) }
-    ensures fault { OnErr result (Rose (S.faults out.old) (S.faults out.new)) }
-    ensures later { S.faults out.old ≤ S.faults out.new }
-{
-    write_warnings(file, source, &found.unit, &found.verdicts, out)?;
-    write_reports(&found.unit, source, stacks, out)?;
-    write_ending(0, end, out)
-}
-
-/// Writes the line of a refused source.
-fn write_refused<S: Sink>(
+/// Says where a source is refused, and why.
+fn print_refused<S: Sink>(
     out: &mut S,
     file: &str,
     line: u32,
@@ -261,11 +170,8 @@ fn write_refused<S: Sink>(
     layer: &'static str,
     number: u8,
     text: &'static str,
-) -> Result<(), SinkFault>
-    ensures all { OnOk result (Appends (S.taken out.old) (S.taken out.new) (refused_line file.now (decimal line) (decimal column) layer.now (decimal number) text.now)) }
-    ensures part { OnErr result (AppendsPrefix (S.taken out.old) (S.taken out.new) (refused_line file.now (decimal line) (decimal column) layer.now (decimal number) text.now)) }
-    ensures fault { OnErr result (Rose (S.faults out.old) (S.faults out.new)) }
-    ensures later { S.faults out.old ≤ S.faults out.new }
+) -> Status
+    ensures { IsPrinted (record { status = StatusRefused; text = refused_line file.now (decimal line) (decimal column) layer.now (decimal number) text.now }) result (S.state out.old) (S.state out.new) }
 {
     let mut line_buffer = Buffer::new();
     let mut column_buffer = Buffer::new();
@@ -273,10 +179,13 @@ fn write_refused<S: Sink>(
     let line = line_buffer.format(line);
     let column = column_buffer.format(column);
     let number = number_buffer.format(number);
-    write_refused_line(file, line, column, layer, number, text, out)
+    match write_refused_line(file, line, column, layer, number, text, out) {
+        Ok(()) => Status::Refused,
+        Err(SinkFault) => Status::WriteFault,
+    }
 }
 
-#[tactic(auto, unfolding(crate::specs::Lines::refused_line))]
+#[tactic(auto, unfolding(crate::specs::Causes::refused_line))]
 fn write_refused_line<'a, S: Sink>(
     file: &'a str,
     line: &'a str,
@@ -286,10 +195,7 @@ fn write_refused_line<'a, S: Sink>(
     text: &'a str,
     out: &mut S,
 ) -> Result<(), SinkFault>
-    ensures all { OnOk result (Appends (S.taken out.old) (S.taken out.new) (refused_line file.now line.now column.now layer.now number.now text.now)) }
-    ensures part { OnErr result (AppendsPrefix (S.taken out.old) (S.taken out.new) (refused_line file.now line.now column.now layer.now number.now text.now)) }
-    ensures fault { OnErr result (Rose (S.faults out.old) (S.faults out.new)) }
-    ensures later { S.faults out.old ≤ S.faults out.new }
+    ensures { IsWritten (refused_line file.now line.now column.now layer.now number.now text.now) result (S.state out.old) (S.state out.new) }
 {
     let pieces = [
         file,

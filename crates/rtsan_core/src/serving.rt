@@ -1,11 +1,12 @@
 //! The top call.
 
-ghost use Rattle.std.specs.Prelude.{◌≡◌, ◌≢◌, ◌≤◌, ℕ, List, IfSome, None, map};
-ghost use Rattle.rt_base.specs.Outside.{Rose};
-ghost use Rattle.rtsan_core.specs.Commands.{command_of};
-ghost use Rattle.rtsan_core.specs.Answers.{IsAnswer, IsAnswered, IsCommandAnswer, FileFailed, IsRunOf};
-ghost use Rattle.rtsan_core.specs.Lines.{Answer, no_memory};
-ghost use Rattle.rtsan_core.specs.Printed.{HasAnswered, IsPrinted, IsUndisturbed, IsGiven};
+ghost use Rattle.std.specs.Prelude.{◌≡◌, ◌≢◌, ◌≤◌, IfSome, None};
+ghost use Rattle.rt_base.specs.Outside.{Rose, KeepsContents};
+ghost use Rattle.rtsan_core.specs.Commands.{command_of, texts};
+ghost use Rattle.rtsan_core.specs.Causes.{OutOfMemory};
+ghost use Rattle.rtsan_core.specs.Ladder.{Ladder, CommandLadder};
+ghost use Rattle.rtsan_core.specs.Outcomes.{IsOutcome, IsUndisturbed, IsCalm, HasTheAnswer, IsPrinted, answer_of};
+ghost use Rattle.rtsan_core.specs.Rows.{HasLine, IsStopped, FileFailed, IsRefused, IsOverLimit, IsUnlinked, IsRunOf, Exactly, LeftReports, LeftTrapped, LeftStopped};
 
 use crate::commands::{check_unit, step_unit};
 use crate::printing::{print_no_memory, print_usage};
@@ -30,15 +31,32 @@ pub fn serve<R: Threads + Wait + Copy + Send + Sync, F: Files, S: Sink, G: Gate>
     out: &mut S,
     gate: &G,
 ) -> Outcome
-    ensures answer { HasAnswered (IsAnswer (map (λ word. word.now) words.now) (F.told files.old) (F.faults files.old) (F.faults files.new)) result (S.taken out.old) (S.taken out.new) (S.faults out.old) (S.faults out.new) }
-    ensures usage { result.status ≡ Status.Usage → command_of (map (λ word. word.now) words.now) ≡ None }
-    ensures read_fault { result.status ≡ Status.ReadFault → FileFailed (map (λ word. word.now) words.now) (F.faults files.old) (F.faults files.new) }
-    ensures write_fault { result.status ≡ Status.WriteFault → Rose (S.faults out.old) (S.faults out.new) }
-    ensures determined { (job : Job) (file source : List ℕ) → IsUndisturbed (map (λ word. word.now) words.now) (F.told files.old) (F.faults files.old) (F.faults files.new) (S.faults out.old) (S.faults out.new) job file source → result.status ≢ Status.NoMemory → (answer : Answer) → IsAnswered job file source answer → IsGiven answer result.status (S.taken out.old) (S.taken out.new) }
-    ensures left { IfSome result.finished (IsRunOf (map (λ word. word.now) words.now) (F.told files.old)) }
-    ensures told { (name : List ℕ) → F.told files.new name ≡ F.told files.old name }
-    ensures files_later { (name : List ℕ) → F.faults files.old name ≤ F.faults files.new name }
-    ensures sink_later { S.faults out.old ≤ S.faults out.new }
+    // status, text and what is left belong together, by where the ladder ends
+    ensures outcome { IsOutcome (Ladder (texts words.now) (F.state files.old) (F.state files.new))
+        result (S.state out.old) (S.state out.new) }
+    // a status from 3 to 9 other than the write fault has one line and leaves nothing
+    ensures line { HasLine result.status →
+        IsStopped (Ladder (texts words.now) (F.state files.old) (F.state files.new))
+        result (S.state out.old) (S.state out.new) }
+    ensures usage { result.status ≡ Status.Usage → command_of (texts words.now) ≡ None }
+    ensures read_fault { result.status ≡ Status.ReadFault →
+        FileFailed (texts words.now) (F.state files.old) (F.state files.new) }
+    ensures write_fault { result.status ≡ Status.WriteFault →
+        Rose (S.state out.old).faults (S.state out.new).faults }
+    ensures refused { result.status ≡ Status.Refused → IsRefused (texts words.now) (F.state files.old) }
+    ensures limit { result.status ≡ Status.Limit → IsOverLimit (texts words.now) (F.state files.old) }
+    ensures unlinked { result.status ≡ Status.Unlinked → IsUnlinked (texts words.now) (F.state files.old) }
+    ensures reported { Exactly result.status Status.Reported (LeftReports result.finished) }
+    ensures trapped { Exactly result.status Status.Trapped (LeftTrapped result.finished) }
+    ensures stopped { Exactly result.status Status.Stopped (LeftStopped result.finished) }
+    ensures left { IfSome result.finished (IsRunOf (texts words.now) (F.state files.old)) }
+    // the answer is a function of the words and the bytes
+    ensures determined { IsCalm (texts words.now) (F.state files.old) (F.state files.new)
+        (S.state out.old) (S.state out.new) → result.status ≢ Status.NoMemory →
+        HasTheAnswer (Ladder (texts words.now) (F.state files.old) (F.state files.new))
+        result (S.state out.old) (S.state out.new) }
+    ensures files { KeepsContents (F.state files.old) (F.state files.new) }
+    ensures sink { (S.state out.old).faults ≤ (S.state out.new).faults }
 {
     answer_words(alloc, words, files, out)
 }
@@ -50,10 +68,13 @@ fn answer_words<F: Files, S: Sink>(
     files: &mut F,
     out: &mut S,
 ) -> Outcome
-    ensures answer { HasAnswered (IsAnswer (map (λ word. word.now) words.now) (F.told files.old) (F.faults files.old) (F.faults files.new)) result (S.taken out.old) (S.taken out.new) (S.faults out.old) (S.faults out.new) }
-    ensures told { (name : List ℕ) → F.told files.new name ≡ F.told files.old name }
-    ensures files_later { (name : List ℕ) → F.faults files.old name ≤ F.faults files.new name }
-    ensures sink_later { S.faults out.old ≤ S.faults out.new }
+    ensures outcome { IsOutcome (Ladder (texts words.now) (F.state files.old) (F.state files.new))
+        result (S.state out.old) (S.state out.new) }
+    ensures determined { IsCalm (texts words.now) (F.state files.old) (F.state files.new)
+        (S.state out.old) (S.state out.new) → result.status ≢ Status.NoMemory →
+        HasTheAnswer (Ladder (texts words.now) (F.state files.old) (F.state files.new))
+        result (S.state out.old) (S.state out.new) }
+    ensures files { KeepsContents (F.state files.old) (F.state files.new) }
 {
     match read_words(alloc, words) {
         Ok(command) => answer_command(alloc, &command, files, out),
@@ -69,10 +90,13 @@ fn answer_command<F: Files, S: Sink>(
     files: &mut F,
     out: &mut S,
 ) -> Outcome
-    ensures answer { HasAnswered (IsCommandAnswer command.now (F.told files.old) (F.faults files.old) (F.faults files.new)) result (S.taken out.old) (S.taken out.new) (S.faults out.old) (S.faults out.new) }
-    ensures told { (name : List ℕ) → F.told files.new name ≡ F.told files.old name }
-    ensures files_later { (name : List ℕ) → F.faults files.old name ≤ F.faults files.new name }
-    ensures sink_later { S.faults out.old ≤ S.faults out.new }
+    ensures outcome { IsOutcome (CommandLadder command.now (F.state files.old) (F.state files.new))
+        result (S.state out.old) (S.state out.new) }
+    ensures determined { IsUndisturbed command.now.file (F.state files.old) (F.state files.new)
+        (S.state out.old) (S.state out.new) → result.status ≢ Status.NoMemory →
+        HasTheAnswer (CommandLadder command.now (F.state files.old) (F.state files.new))
+        result (S.state out.old) (S.state out.new) }
+    ensures files { KeepsContents (F.state files.old) (F.state files.new) }
 {
     match command.job {
         Job::Check => check_unit(alloc, command, files, out),
@@ -82,7 +106,7 @@ fn answer_command<F: Files, S: Sink>(
 
 /// What a caller answers where memory did not suffice for the words themselves.
 pub fn out_of_memory<S: Sink>(out: &mut S) -> Outcome
-    ensures printed { IsPrinted no_memory result.status (S.taken out.old) (S.taken out.new) (S.faults out.old) (S.faults out.new) }
+    ensures printed { IsPrinted (answer_of OutOfMemory) result.status (S.state out.old) (S.state out.new) }
     ensures finished { result.finished ≡ None }
 {
     ended(print_no_memory(out))

@@ -1,54 +1,44 @@
 //! `step`: from a unit to its run.
 
-ghost use Rattle.std.specs.Prelude.{◌≡◌, ◌≤◌, [], ◌∷◌, length, IfOk};
+ghost use Rattle.std.specs.Prelude.{◌≡◌, [], ◌∷◌, length, IfOk};
 ghost use Rattle.std.specs.Option.{option_to_list};
-ghost use Rattle.built_form.specs.Built.{AreCallsWithin};
-ghost use Rattle.eff_check.specs.Violations.{AreWarnings};
-ghost use Rattle.eff_text.specs.WarningText.{ArePrintable};
 ghost use Rattle.src_model.specs.Follows.{Behaves};
 ghost use Rattle.reports.specs.Totals.{counted};
-ghost use Rattle.rtsan_core.specs.Answers.{IsStepAnswer};
-ghost use Rattle.rtsan_core.specs.Printed.{HasAnswered};
-ghost use Rattle.rtsan_core.specs.Runs.{IsFinished, ended_of};
+ghost use Rattle.rtsan_core.specs.Ladder.{JobLadder};
+ghost use Rattle.rtsan_core.specs.Runs.{IsFinished};
+ghost use Rattle.rtsan_core.specs.Found.{HasOneRun, IsReady, IsOnlyOutcome, ended_of};
 
 use crate::finished::{Ended, EndedList, Finished};
-use crate::printing::{print_no_memory, print_run, print_uncompiled};
-use crate::reading::Checked;
+use crate::printing::{ENTRY, print_no_memory, print_run, print_uncompiled};
+use crate::reading::Found;
 use crate::status::{Outcome, ended};
+use crate::words::Job;
+use built_unit::Unit;
 use c_codegen::compile;
-use core_unit::Unit;
 use mcode::Code;
 use reports::collect_one;
 use rt_base::Sink;
-use src_model::End;
 use std::alloc::{AllocError, Global};
 use thread_run::{Ran, run_thread};
 
-/// The function that a run begins with.
-const ENTRY: &str = "main";
+/// The law of one run: a unit has one trace and one ending from each entry. The call itself does nothing.
+pub fn law_one_run(unit: &Unit)
+    ensures { HasOneRun unit.now }
+{}
 
-/// Runs the unit of a source, and prints its warnings, its reports and its ending, or why it can't be run.
-pub fn step_source<S: Sink>(
-    alloc: Global,
-    out: &mut S,
-    file: &str,
-    source: &[u8],
-    found: &Checked,
-) -> Outcome
-    requires short { length source.now ≤ 1048576 }
-    requires warnings { AreWarnings found.now.unit found.now.verdicts }
-    requires printable { ArePrintable source.now found.now.unit found.now.verdicts }
-    requires placed { AreCallsWithin source.now found.now.unit }
-    ensures answer { HasAnswered (IsStepAnswer file.now source.now found.now.unit) result (S.taken out.old) (S.taken out.new) (S.faults out.old) (S.faults out.new) }
-    ensures later { S.faults out.old ≤ S.faults out.new }
+/// Runs the unit that was found, and prints its warnings, its reports and its ending, or why it can't be run.
+pub fn step_found<S: Sink>(alloc: Global, out: &mut S, file: &str, found: &Found) -> Outcome
+    requires { IsReady found.now }
+    ensures { IsOnlyOutcome (JobLadder Job.Step file.now found.now.source found.now.unit) result (S.state out.old) (S.state out.new) }
 {
     let code = match compile(alloc, &found.unit, ENTRY) {
         Ok(code) => code,
         Err(refusal) => return ended(print_uncompiled(out, &found.unit, refusal)),
     };
+    law_one_run(&found.unit);
     match run_code(alloc, &found.unit, code) {
-        Ok((end, finished)) => {
-            let status = print_run(out, file, source, found, &finished.stacks, end);
+        Ok(finished) => {
+            let status = print_run(out, file, found, &finished);
             Outcome {
                 status,
                 finished: Some(finished),
@@ -58,16 +48,14 @@ pub fn step_source<S: Sink>(
     }
 }
 
-/// Runs the code of a unit as one thread, and collects what the run leaves, and how the thread ended. The only error is want
-/// of memory.
-fn run_code(alloc: Global, unit: &Unit, code: Code) -> Result<(End, Finished), AllocError>
+/// Runs the code of a unit as one thread, and collects what the run leaves. The only error is want of memory.
+fn run_code(alloc: Global, unit: &Unit, code: Code) -> Result<Finished, AllocError>
     requires { Behaves unit.now code }
-    ensures { IfOk result (λ r. (left : IsFinished unit.now code.entry r.1) × (left.ended.end ≡ r.0)) }
+    ensures { IfOk result (IsFinished unit.now code.entry) }
 {
     let ran = run_thread(alloc, unit, &code)?;
-    let end = ran.end;
     let finished = collect(alloc, code, ran)?;
-    Ok((end, finished))
+    Ok(finished)
 }
 
 /// What a run leaves, of its one thread.

@@ -1,14 +1,14 @@
 //! The command words.
 
-ghost use Rattle.std.specs.Prelude.{◌≡◌, IfOk, Some, None, map};
-ghost use Rattle.rtsan_core.specs.Commands.{command_of, is_file_name, job_of, unless_no_job};
+ghost use Rattle.std.specs.Prelude.{◌≡◌, IfOk, Some, None};
+ghost use Rattle.rtsan_core.specs.Commands.{command_of, texts, is_file_name, job_of, unless_no_job};
 ghost use Rattle.rtsan_core.specs.declared.words.WordsFault.TheVariants.{Usage};
 
-use core_unit::Name;
+use built_unit::Name;
 use std::alloc::{AllocError, Global};
 
 /// What a command does.
-#[derive(Clone, Copy, Debug, PartialEq, Eq)]
+#[derive(Clone, Copy)]
 pub enum Job {
     /// warn by the function effect rules
     Check,
@@ -25,7 +25,7 @@ pub struct Command {
 }
 
 /// Why words are no command value.
-#[derive(Clone, Copy, Debug, PartialEq, Eq)]
+#[derive(Drop)]
 pub enum WordsFault {
     /// the words are no command
     Usage,
@@ -35,8 +35,8 @@ pub enum WordsFault {
 /// The command of these words, which are those after the program's name: `check` or `step`, and the name of a file, which
 /// isn't empty and doesn't begin with `-`. Usage comes exactly where they are no command.
 pub fn read_words(alloc: Global, words: &[&str]) -> Result<Command, WordsFault>
-    ensures command { IfOk result (λ command. command_of (map (λ word. word.now) words.now) ≡ Some command) }
-    ensures usage { result ≡ Err Usage → command_of (map (λ word. word.now) words.now) ≡ None }
+    ensures command { IfOk result (λ command. command_of (texts words.now) ≡ Some command) }
+    ensures usage { result ≡ Err Usage → command_of (texts words.now) ≡ None }
 {
     let [job, file] = words else {
         return Err(WordsFault::Usage);

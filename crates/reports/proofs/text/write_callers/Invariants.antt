@@ -1,5 +1,5 @@
 -- the lines of the callers that are left remain, and there are as many steps in all as lines
-use Rattle.std.proofs.Common.{◌≡◌, ◌+◌, ◌≤◌, length, reverse}
+use Rattle.std.proofs.Common.{◌≡◌, ◌+◌, length, reverse}
 use Rattle.reports.specs.RunText.{callers_text}
 use Rattle.reports.proofs.Remaining.{Remains}
 use Rattle.reports.proofs.text.write_callers.Given as goal
@@ -7,10 +7,9 @@ use Rattle.reports.proofs.text.write_callers.Given as goal
 abbrev pub invariant-each : goal.invariant-each
 invariant-each g l = record {
   owed :
-      Remains (g.S.Sink.taken l.initial.out) (g.S.Sink.taken l.out)
+      Remains (g.S.Sink.state l.initial.out) (g.S.Sink.state l.out)
       (callers_text l.source l.unit l.index l.site (reverse l.rest))
       (callers_text l.source l.unit 1 l.fn.site (reverse l.callers));
-  later : g.S.Sink.faults l.initial.out ≤ g.S.Sink.faults l.out;
   counted : l.index + length l.rest ≡ length l.callers + 1;
 }
 

@@ -1,4 +1,4 @@
-use Rattle.rtsan_core.proofs.Stepped.{collected}
+use Rattle.rtsan_core.proofs.Running.{collected}
 use Rattle.rtsan_core.proofs.stepping.run_code.Goals as goal
 
 pub returns : goal.returns

@@ -8,12 +8,10 @@ returns-in_default-clause-failed c =
     let left = c.count_fault.ensures ∙ ap (λ m. after_fault m c.args.name.now) c.count_call-fails.ensures.counted in
     rw left (after_fault-rose c.args.self.now c.args.name.now)
 
-pub returns-in_default-clause-later : goal.returns-in_default-clause-later
-returns-in_default-clause-later c q =
+pub returns-in_default-clause-kept : goal.returns-in_default-clause-kept
+returns-in_default-clause-kept c =
     let left = c.count_fault.ensures ∙ ap (λ m. after_fault m c.args.name.now) c.count_call-fails.ensures.counted in
-    rw left (after_fault-later c.args.self.now c.args.name.now q)
-
-pub returns-in_default-clause-same : goal.returns-in_default-clause-same
-returns-in_default-clause-same c q =
-    let left = c.count_fault.ensures ∙ ap (λ m. after_fault m c.args.name.now) c.count_call-fails.ensures.counted in
-    rw left (after_fault-same c.args.self.now c.args.name.now q)
+    record {
+      same = λ q. rw left (after_fault-same c.args.self.now c.args.name.now q);
+      later = λ q. rw left (after_fault-later c.args.self.now c.args.name.now q);
+    }

@@ -1,0 +1,110 @@
+-- When each status comes, a row for each.
+use Rattle.std.specs.Prelude.{◌≡◌, ◌≢◌, ◌↔◌, ℕ, ◌<◌, ◌⊎◌, true, false, List, length, Option, Some, None, IsSomeAnd}
+use Rattle.built_unit.specs.Units.{UnitParts}
+use Rattle.c_codegen.specs.Unit.{unit_nodes, node_limit}
+use Rattle.rt_base.specs.Outside.{FilesState, SinkState, IsContents, Rose, TakesAll}
+use Rattle.rtsan_core.specs.declared.reading.TheConstants.{SOURCE_LIMIT}
+use Rattle.rtsan_core.specs.declared.finished.Finished.{Finished}
+use Rattle.rtsan_core.specs.declared.status.Outcome.{Outcome}
+use Rattle.rtsan_core.specs.declared.status.Status.{Status}
+use Rattle.rtsan_core.specs.declared.status.Status.TheVariants.{Clean, Warned, Reported, Refused, Usage, ReadFault, WriteFault, NoMemory, Limit, Unlinked, Trapped, Stopped}
+use Rattle.rtsan_core.specs.declared.words.Command.{Command}
+use Rattle.rtsan_core.specs.declared.words.Job.TheVariants.{Step}
+use Rattle.rtsan_core.specs.Commands.{command_of}
+use Rattle.rtsan_core.specs.Causes.{Cause, status_of, line_of}
+use Rattle.rtsan_core.specs.Rungs.{Rung, Stops, GoesOn}
+use Rattle.rtsan_core.specs.Runs.{IsFinished, has_trapped, has_stopped}
+use Rattle.rtsan_core.specs.Ladder.{Findings, SourceLadder, IsUndefined}
+use Rattle.rtsan_core.specs.Outcomes.{Ends}
+
+-- the statuses of which each has one line: those from 3 to 9 but the write fault
+abbrev pub HasLine : Status → Type 0
+HasLine Refused = Unit {0}
+HasLine Usage = Unit {0}
+HasLine ReadFault = Unit {0}
+HasLine NoMemory = Unit {0}
+HasLine Limit = Unit {0}
+HasLine Unlinked = Unit {0}
+HasLine status = ⊥
+
+-- the ladder stopped with a cause: its line was printed and nothing else, and nothing is left
+pub record IsStopped (ladder : Rung Findings → Type 0) (outcome : Outcome) (old new : SinkState) : Type 0 where
+  pub cause : Cause
+  pub reached : Ends ladder (Stops cause)
+  pub status : outcome.status ≡ status_of cause
+  pub line : TakesAll (line_of cause) old new
+  pub left : outcome.finished ≡ None
+
+-- the words are a command, and the count of faults of its file rose
+pub record FileFailed (words : List (List ℕ)) (before after : FilesState) : Type 0 where
+  pub command : Command
+  pub named : command_of words ≡ Some command
+  pub rose : Rose (before.faults command.file) (after.faults command.file)
+
+-- the words are a command for a file of these contents, where they are told
+pub record HasSource (words : List (List ℕ)) (files : FilesState) (command : Command) (source : List ℕ) : Type 0 where
+  pub named : command_of words ≡ Some command
+  pub contents : IsContents (files.contents command.file) source
+
+-- the source has no reading
+pub record IsRefused (words : List (List ℕ)) (files : FilesState) : Type 0 where
+  pub command : Command
+  pub source : List ℕ
+  pub has : HasSource words files command source
+  pub cause : Cause
+  pub stops : SourceLadder command.file source (Stops cause)
+  pub status : status_of cause ≡ Refused
+
+-- the words are a command to run a file, which reads as this unit
+pub record RunsUnit (words : List (List ℕ)) (files : FilesState) (unit : UnitParts) : Type 0 where
+  pub command : Command
+  pub steps : command.job ≡ Step
+  pub source : List ℕ
+  pub has : HasSource words files command source
+  pub reads : SourceLadder command.file source (GoesOn unit)
+
+-- the source is too long
+pub record HasLongSource (words : List (List ℕ)) (files : FilesState) : Type 0 where
+  pub command : Command
+  pub source : List ℕ
+  pub has : HasSource words files command source
+  pub long : SOURCE_LIMIT < length source
+
+-- the code of the unit is too long
+pub record HasLongCode (words : List (List ℕ)) (files : FilesState) : Type 0 where
+  pub unit : UnitParts
+  pub runs : RunsUnit words files unit
+  pub long : node_limit < unit_nodes unit
+
+abbrev pub IsOverLimit : List (List ℕ) → FilesState → Type 0
+IsOverLimit words files = HasLongSource words files ⊎ HasLongCode words files
+
+-- the entry or a called function of the unit has no definition
+pub record IsUnlinked (words : List (List ℕ)) (files : FilesState) : Type 0 where
+  pub unit : UnitParts
+  pub runs : RunsUnit words files unit
+  pub name : List ℕ
+  pub undefined : IsUndefined unit name
+
+-- what is left is a run of the unit of the command's file
+pub record IsRunOf (words : List (List ℕ)) (files : FilesState) (left : Finished) : Type 0 where
+  pub unit : UnitParts
+  pub runs : RunsUnit words files unit
+  pub entry : ℕ
+  pub finished : IsFinished unit entry left
+
+-- where no write fault stands in its place, the status comes exactly where this is so
+abbrev pub Exactly : (given status : Status) → Type 0 → Type 0
+Exactly given status so = given ≢ WriteFault → (given ≡ status) ↔ so
+
+-- what is left has reports
+abbrev pub LeftReports : Option Finished → Type 0
+LeftReports left = IsSomeAnd left (λ f. 0 < f.total)
+
+-- what is left has no report, and a trapped thread
+abbrev pub LeftTrapped : Option Finished → Type 0
+LeftTrapped left = IsSomeAnd left (λ f. (f.total ≡ 0) × (has_trapped f ≡ true))
+
+-- what is left has no report and no trapped thread, and a stopped one
+abbrev pub LeftStopped : Option Finished → Type 0
+LeftStopped left = IsSomeAnd left (λ f. (f.total ≡ 0) × (has_trapped f ≡ false) × (has_stopped f ≡ true))
