@@ -1,8 +1,8 @@
 -- Whether the calls of a unit are of the form.
 use Rattle.std.proofs.Common.{◌≡◌, ℕ, Bool, IsTrue, ◌↔◌, List, Some, sym, subst}
 use Rattle.std.specs.Prelude.{IsSomeAnd, slice_get}
-use Rattle.core_unit.specs.declared.units.FunctionInfo.{FunctionInfo}
-use Rattle.core_unit.specs.declared.units.SiteInfo.{SiteInfo}
+use Rattle.built_unit.specs.declared.units.FunctionInfo.{FunctionInfo}
+use Rattle.built_unit.specs.declared.units.SiteInfo.{SiteInfo}
 use Rattle.built_form.specs.Built.{MayCall, IsCallBuilt}
 
 -- the caller and the callee are those of these numbers, and no others

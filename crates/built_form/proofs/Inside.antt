@@ -3,9 +3,9 @@ use Rattle.std.proofs.Common.{◌≡◌, ℕ, ◌≤◌, List, [], ◌∷◌, ma
 use Rattle.std.proofs.lemmas.List.Elements.{All-map, All-append, All-head, All-tail}
 use Rattle.c_text.specs.Spelling.{IsWithin}
 use Rattle.c_text.specs.declared.Token.{Token}
-use Rattle.core_unit.specs.declared.units.SiteInfo.{SiteInfo}
+use Rattle.built_unit.specs.declared.units.SiteInfo.{SiteInfo}
 use Rattle.built_form.specs.declared.item.Item.{Item}
-use Rattle.core_unit.specs.Units.{UnitParts}
+use Rattle.built_unit.specs.Units.{UnitParts}
 use Rattle.built_form.specs.declared.refusal.FormRefusal.{FormRefusal}
 use Rattle.built_form.specs.Built.{IsItemWithin, AreCallsWithin, calls_of, scope_of, site_of, item_sites, sites_of, unit_of}
 

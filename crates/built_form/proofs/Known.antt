@@ -5,8 +5,8 @@ use Rattle.std.specs.Str.{bytes_eq}
 use Rattle.std.proofs.lemmas.List.Quantifiers.{position-Some}
 use Rattle.c_text.specs.Spelling.{IsWithin, IsInOrder, text_of}
 use Rattle.c_text.specs.declared.Token.{Token}
-use Rattle.core_unit.specs.declared.units.SiteInfo.{SiteInfo}
-use Rattle.core_unit.specs.Units.{IsUnit}
+use Rattle.built_unit.specs.declared.units.SiteInfo.{SiteInfo}
+use Rattle.built_unit.specs.Units.{IsUnit}
 use Rattle.built_form.specs.declared.item.Item.{Item}
 use Rattle.built_form.specs.Form.{Spells, lexemes_of, spelled_items}
 use Rattle.built_form.specs.Built.{IsItemWithin, calls_of, number_of, scope_of, site_of, sites_of, functions_of}

@@ -4,7 +4,7 @@ use Rattle.std.specs.List.{AllByRecursion, flat_map}
 use Rattle.std.specs.List.Sorted.{IsStrictlyIncreasing}
 use Rattle.c_text.specs.Spelling.{IsWithin, IsInOrderFrom, text_of}
 use Rattle.c_text.specs.declared.Token.{Token}
-use Rattle.core_unit.specs.declared.units.SiteInfo.{SiteInfo}
+use Rattle.built_unit.specs.declared.units.SiteInfo.{SiteInfo}
 use Rattle.built_form.specs.declared.item.Item.{Item}
 use Rattle.built_form.specs.declared.item.Kind.{Kind}
 use Rattle.built_form.specs.declared.item.Kind.TheVariants.{Void, Main}

@@ -2,9 +2,9 @@
 use Rattle.std.proofs.Common.{◌≡◌, ℕ, ◌+◌, ◌≤◌, true, false, IsTrue, ◌↔◌, List, [], ◌∷◌, ◌++◌, map, length, drop, append-nil, refl, sym, subst, ap, ◌∙◌}
 use Rattle.std.proofs.lemmas.List.{drop_all}
 use Rattle.c_text.specs.declared.Token.{Token}
-use Rattle.core_unit.specs.declared.units.FunctionInfo.{FunctionInfo}
-use Rattle.core_unit.specs.declared.units.SiteInfo.{SiteInfo}
-use Rattle.core_unit.specs.Units.{UnitParts}
+use Rattle.built_unit.specs.declared.units.FunctionInfo.{FunctionInfo}
+use Rattle.built_unit.specs.declared.units.SiteInfo.{SiteInfo}
+use Rattle.built_unit.specs.Units.{UnitParts}
 use Rattle.built_form.specs.declared.item.Item.{Item}
 use Rattle.built_form.specs.Built.{AreDeclared, AreItemsBuilt, AreCallsBuilt, IsBuilt, functions_of, site_of, sites_of, unit_of, numbered}
 

@@ -7,10 +7,10 @@ use Rattle.c_text.specs.declared.Token.{Token}
 use Rattle.eff_types.specs.declared.levels.Effects.{Effects}
 use Rattle.eff_types.specs.declared.levels.Level.TheVariants.{NonBlocking}
 use Rattle.eff_types.specs.Effects.{plain}
-use Rattle.core_unit.specs.declared.units.Body.{Body}
-use Rattle.core_unit.specs.declared.units.FunctionInfo.{FunctionInfo}
-use Rattle.core_unit.specs.declared.units.SiteInfo.{SiteInfo}
-use Rattle.core_unit.specs.Units.{UnitParts}
+use Rattle.built_unit.specs.declared.units.Body.{Body}
+use Rattle.built_unit.specs.declared.units.FunctionInfo.{FunctionInfo}
+use Rattle.built_unit.specs.declared.units.SiteInfo.{SiteInfo}
+use Rattle.built_unit.specs.Units.{UnitParts}
 use Rattle.built_form.specs.declared.item.Item.{Item}
 use Rattle.built_form.specs.declared.item.Kind.{Kind}
 use Rattle.built_form.specs.declared.item.Kind.TheVariants.{Void, Main}

@@ -1,11 +1,11 @@
 //! Which calls a file of the form may make.
 
 ghost use Rattle.std.specs.Prelude.{◌↔◌, IsTrue};
-ghost use Rattle.core_unit.specs.Units.{IsSiteOf};
+ghost use Rattle.built_unit.specs.Units.{IsSiteOf};
 ghost use Rattle.built_form.specs.Built.{IsMain, IsInferred, MayCall, IsCallBuilt, AreCallsBuilt};
 
 use crate::marks::PLAIN;
-use core_unit::{FunctionInfo, SiteInfo, Unit};
+use built_unit::{FunctionInfo, SiteInfo, Unit};
 use eff_types::Level;
 
 /// Whether the function is `main`.

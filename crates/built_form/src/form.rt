@@ -2,13 +2,13 @@
 
 ghost use Rattle.std.specs.Prelude.{◌≡◌, ◌≤◌, length, All, IfOk};
 ghost use Rattle.c_text.specs.Spelling.{IsWithin, IsInOrder};
-ghost use Rattle.core_unit.specs.Units.{UnitParts};
+ghost use Rattle.built_unit.specs.Units.{UnitParts};
 ghost use Rattle.built_form.specs.Built.{IsOfForm, AreCallsWithin};
 
 use crate::refusal::FormRefusal;
 use crate::{syntax, unit};
+use built_unit::Unit;
 use c_text::Token;
-use core_unit::Unit;
 use std::alloc::Global;
 
 /// Reads the tokens of a file, which stand in order within its bytes, into the unit that they spell.

@@ -14,6 +14,3 @@ pub mod unit;
 
 pub use form::read_form;
 pub use refusal::FormRefusal;
-
-#[cfg(test)]
-mod tests;

@@ -1,5 +1,8 @@
 //! Why a file is not read.
 
+ghost use Rattle.std.specs.Prelude.{◌≡◌};
+
+use std::alloc::{AllocError, AllocFailed};
 use thiserror::Error;
 
 /// Why there is no unit.
@@ -11,4 +14,24 @@ pub enum FormRefusal {
     /// Memory ran out.
     #[error("out of memory")]
     NoMemory,
+}
+
+impl From<AllocError> for FormRefusal {
+    ghost use Rattle.built_form.specs.declared.refusal.FormRefusal.TheVariants.{NoMemory};
+
+    ghost from_gives = { λ _ e. e ≡ NoMemory };
+
+    fn from(_error: AllocError) -> FormRefusal {
+        FormRefusal::NoMemory
+    }
+}
+
+impl<T: Drop> From<AllocFailed<T>> for FormRefusal {
+    ghost use Rattle.built_form.specs.declared.refusal.FormRefusal.TheVariants.{NoMemory};
+
+    ghost from_gives = { λ _ e. e ≡ NoMemory };
+
+    fn from(_error: AllocFailed<T>) -> FormRefusal {
+        FormRefusal::NoMemory
+    }
 }

@@ -101,7 +101,7 @@ pub fn block(
     let mut calls = TokenList::new(alloc);
     'calls: while cursor.sees_name() {
         let name = call(cursor)?;
-        calls.push(name).map_err(|_| FormRefusal::NoMemory)?;
+        calls.push(name)?;
     }
     cursor.parts(closing)?;
     Ok(calls)
@@ -172,7 +172,7 @@ pub fn items(alloc: Global, source: &[u8], tokens: &[Token]) -> Result<Vec<Item>
     let mut items = Vec::new(alloc);
     'items: while !cursor.is_at_end() {
         let item = item(alloc, &mut cursor)?;
-        items.push(item).map_err(|_| FormRefusal::NoMemory)?;
+        items.push(item)?;
     }
     Ok(items)
 }

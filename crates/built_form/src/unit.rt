@@ -3,7 +3,7 @@
 ghost use Rattle.std.specs.Prelude.{◌≡◌, ◌<◌, ◌≤◌, ◌+◌, List, [], ◌∷◌, ◌++◌, length, map, IfOk, OnOk, All, IsTrue, ◌↔◌};
 ghost use Rattle.std.specs.Str.{IsUtf8};
 ghost use Rattle.c_text.specs.Spelling.{IsWithin, text_of};
-ghost use Rattle.core_unit.specs.Units.{IsUnit};
+ghost use Rattle.built_unit.specs.Units.{IsUnit};
 ghost use Rattle.built_form.specs.Built.{AreDeclared, IsNameOf, IsItemBuilt, IsBuilt, IsItemWithin, scope_of, calls_of, effects_of, body_of, function_of, site_of, item_sites, functions_of, sites_of, unit_of, numbered};
 
 use crate::calls::are_calls_built;
@@ -12,8 +12,8 @@ use crate::item::{Item, Kind};
 use crate::marks::{PLAIN, marked_effects};
 use crate::refusal::FormRefusal;
 use crate::scope::{Scope, is_reserved};
+use built_unit::{Body, FunctionInfo, FunctionList, Name, NumberList, SiteInfo, SiteList, Unit};
 use c_text::Token;
-use core_unit::{Body, FunctionInfo, FunctionList, Name, NumberList, SiteInfo, SiteList, Unit};
 use eff_types::Effects;
 use std::alloc::Global;
 
@@ -47,7 +47,7 @@ pub fn name(alloc: Global, text: &[u8]) -> Result<Name, FormRefusal>
     ensures none { result ≡ Err FormRefusal.NotBuilt → IsUtf8 text.now → ⊥ }
 {
     match str::from_utf8(text) {
-        Ok(text) => Name::new(alloc, text).map_err(|_| FormRefusal::NoMemory),
+        Ok(text) => Ok(Name::new(alloc, text)?),
         Err(_) => Err(FormRefusal::NotBuilt),
     }
 }
@@ -79,10 +79,8 @@ pub fn call_sites(
             place: call.start,
             direct: Some(callee as u32),
         };
-        sites.push(site).map_err(|_| FormRefusal::NoMemory)?;
-        numbers
-            .push(sites.as_slice().len() as u32)
-            .map_err(|_| FormRefusal::NoMemory)?;
+        sites.push(site)?;
+        numbers.push(sites.as_slice().len() as u32)?;
     }
     Ok(numbers)
 }
@@ -169,9 +167,8 @@ impl<'a> Builder<'a> {
             place: item.name.start,
             body,
         };
-        self.functions
-            .push(function)
-            .map_err(|_| FormRefusal::NoMemory)
+        self.functions.push(function)?;
+        Ok(())
     }
 }
 

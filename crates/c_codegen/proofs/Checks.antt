@@ -3,10 +3,10 @@ use Rattle.std.proofs.Common.{◌≡◌, ℕ, zero, suc, ◌+◌, ◌*◌, ◌<�
 use Rattle.std.specs.Prelude.{slice_get}
 use Rattle.std.proofs.lemmas.Bool.{cases_lt}
 use Rattle.std.proofs.lemmas.Option.{slice_get-get_or}
-use Rattle.core_unit.specs.declared.units.Body.{Body}
-use Rattle.core_unit.specs.declared.units.FunctionInfo.{FunctionInfo}
-use Rattle.core_unit.specs.declared.units.SiteInfo.{SiteInfo}
-use Rattle.core_unit.specs.Units.{UnitParts}
+use Rattle.built_unit.specs.declared.units.Body.{Body}
+use Rattle.built_unit.specs.declared.units.FunctionInfo.{FunctionInfo}
+use Rattle.built_unit.specs.declared.units.SiteInfo.{SiteInfo}
+use Rattle.built_unit.specs.Units.{UnitParts}
 use Rattle.src_model.specs.Source.{Task, callee_at, named, calls, return_of, meets, body_tasks, info_tasks}
 use Rattle.c_codegen.specs.Instructions.{task_code, tasks_code, maybe_code, function_code, unit_code}
 use Rattle.c_codegen.specs.Unit.{missing_callee, missing_in, missing_at, MissesBelow, IsFirstBelow, IsFirstMissing, lesser, return_nodes, body_nodes, nodes_in, nodes_below}

@@ -6,24 +6,24 @@ use Rattle.std.proofs.Math.ListN.{get_or-append}
 use Rattle.std.proofs.lemmas.Bool.{cases_lt}
 use Rattle.std.proofs.lemmas.List.{take_more}
 use Rattle.std.proofs.lemmas.Option.{slice_get-get_or, slice_get_past}
-use Rattle.core_unit.specs.declared.units.Body.{Body}
-use Rattle.core_unit.specs.declared.units.FunctionInfo.{FunctionInfo}
-use Rattle.core_unit.specs.Units.{UnitParts}
+use Rattle.built_unit.specs.declared.units.Body.{Body}
+use Rattle.built_unit.specs.declared.units.FunctionInfo.{FunctionInfo}
+use Rattle.built_unit.specs.Units.{UnitParts}
 use Rattle.mcode.specs.declared.code.Instruction.{Instruction}
-use Rattle.mcode.specs.Machine.{Program, placed, entry_of}
+use Rattle.mcode.specs.Machine.{Program, flattened, entry_of}
 use Rattle.src_model.specs.Source.{Task, Call, Check, Begin, Meet, Give, Leaving, Fail, Deliver, Tell, Halting, Finished, callee_at, named, calls, return_of, meets, body_tasks, info_tasks, tasks_of}
 use Rattle.src_model.specs.Follows.{Behaves}
-use Rattle.c_codegen.specs.Instructions.{task_code, tasks_code, maybe_code, function_code, unit_code, place_of, unit_entries}
+use Rattle.c_codegen.specs.Instructions.{task_code, tasks_code, maybe_code, function_code, unit_code, entry_at, unit_entries}
 use Rattle.c_codegen.proofs.Follows.{Lies, Fits, behaves}
 
--- these instructions stand in the code at this place
+-- these instructions stand in the code from this pc on
 abbrev HasAt : List Instruction → ℕ → List Instruction → Type 0
-HasAt code place [] = Unit {0}
-HasAt code place (i ∷ is) = (slice_get code place ≡ Some i) × HasAt code (place + 1) is
+HasAt code pc [] = Unit {0}
+HasAt code pc (i ∷ is) = (slice_get code pc ≡ Some i) × HasAt code (pc + 1) is
 
-has_front : (code : List Instruction) (place : ℕ) (a b : List Instruction) → HasAt code place (a ++ b) → HasAt code place a
-has_front code place [] b h = tt
-has_front code place (i ∷ a) b h = (h.0, has_front code (place + 1) a b h.1)
+has_front : (code : List Instruction) (pc : ℕ) (a b : List Instruction) → HasAt code pc (a ++ b) → HasAt code pc a
+has_front code pc [] b h = tt
+has_front code pc (i ∷ a) b h = (h.0, has_front code (pc + 1) a b h.1)
 
 seam : {A : Type 0} (pre : List A) (x : A) (rest : List A) → slice_get (pre ++ x ∷ rest) (length pre) ≡ Some x
 seam pre x rest =
@@ -53,19 +53,19 @@ Lands (Tell ∷ k) = ⊥
 Lands (Halting finish ∷ k) = ⊥
 Lands (Finished finish ∷ k) = ⊥
 
-lies_where : (code : List Instruction) (k : List Task) (place : ℕ) → Lands k → HasAt code place (tasks_code k) → Lies code k place
-lies_where code [] place l h = absurd l
-lies_where code (Call function site ∷ k) place l h = (h.0, h.1.0, lies_where code k (place + 1 + 1) l h.1.1)
-lies_where code (Check ∷ k) place l h = (h.0, lies_where code k (place + 1) l h.1)
-lies_where code (Begin function site ∷ k) place l h = (h.0, lies_where code k (place + 1) l h.1)
-lies_where code (Meet function ∷ k) place l h = (h.0, lies_where code k (place + 1) l h.1)
-lies_where code (Give number ∷ k) place l h = (h.0, lies_where code k (place + 1) l h.1)
-lies_where code (Leaving ∷ k) place l h = h.0
-lies_where code (Fail kind ∷ k) place l h = h.0
-lies_where code (Deliver ∷ k) place l h = absurd l
-lies_where code (Tell ∷ k) place l h = absurd l
-lies_where code (Halting finish ∷ k) place l h = absurd l
-lies_where code (Finished finish ∷ k) place l h = absurd l
+lies_where : (code : List Instruction) (k : List Task) (pc : ℕ) → Lands k → HasAt code pc (tasks_code k) → Lies code k pc
+lies_where code [] pc l h = absurd l
+lies_where code (Call function site ∷ k) pc l h = (h.0, h.1.0, lies_where code k (pc + 1 + 1) l h.1.1)
+lies_where code (Check ∷ k) pc l h = (h.0, lies_where code k (pc + 1) l h.1)
+lies_where code (Begin function site ∷ k) pc l h = (h.0, lies_where code k (pc + 1) l h.1)
+lies_where code (Meet function ∷ k) pc l h = (h.0, lies_where code k (pc + 1) l h.1)
+lies_where code (Give number ∷ k) pc l h = (h.0, lies_where code k (pc + 1) l h.1)
+lies_where code (Leaving ∷ k) pc l h = h.0
+lies_where code (Fail kind ∷ k) pc l h = h.0
+lies_where code (Deliver ∷ k) pc l h = absurd l
+lies_where code (Tell ∷ k) pc l h = absurd l
+lies_where code (Halting finish ∷ k) pc l h = absurd l
+lies_where code (Finished finish ∷ k) pc l h = absurd l
 
 named_lands : (callee : Option ℕ) (site : ℕ) (k : List Task) → Lands k → Lands (named callee site ∷ k)
 named_lands None site k l = tt
@@ -116,12 +116,12 @@ code_split u function (suc n) low =
 entries_length : (u : UnitParts) (n : ℕ) → length (unit_entries u n) ≡ n
 entries_length u zero = refl
 entries_length u (suc n) =
-    omega (arith, length-append (unit_entries u n) (place_of (length (unit_code u n)) (tasks_of u n) ∷ []), entries_length u n)
+    omega (arith, length-append (unit_entries u n) (entry_at (length (unit_code u n)) (tasks_of u n) ∷ []), entries_length u n)
 
-entries_get : (u : UnitParts) (function n : ℕ) → function < n → slice_get (unit_entries u n) function ≡ Some (place_of (length (unit_code u function)) (tasks_of u function))
+entries_get : (u : UnitParts) (function n : ℕ) → function < n → slice_get (unit_entries u n) function ≡ Some (entry_at (length (unit_code u function)) (tasks_of u function))
 entries_get u function zero low = absurd (omega arith)
 entries_get u function (suc n) low =
-    let last = place_of (length (unit_code u n)) (tasks_of u n) in
+    let last = entry_at (length (unit_code u n)) (tasks_of u n) in
     elim (cases_lt function n) [
       | inl below ↦
           let within : function < length (unit_entries u n) = omega (arith, entries_length u n) in
@@ -129,7 +129,7 @@ entries_get u function (suc n) low =
       | inr above ↦
           let e : n ≡ function = omega arith in
           let here : slice_get (unit_entries u n ++ last ∷ []) n ≡ Some last = subst (λ i. slice_get (unit_entries u n ++ last ∷ []) i ≡ Some last) (entries_length u n) (seam (unit_entries u n) last []) in
-          subst (λ i. slice_get (unit_entries u n ++ last ∷ []) i ≡ Some (place_of (length (unit_code u i)) (tasks_of u i))) e here
+          subst (λ i. slice_get (unit_entries u n ++ last ∷ []) i ≡ Some (entry_at (length (unit_code u i)) (tasks_of u i))) e here
     ]
   where
     get_before : (xs ys : List (Option ℕ)) (i : ℕ) → i < length xs → slice_get (xs ++ ys) i ≡ slice_get xs i
@@ -137,7 +137,7 @@ entries_get u function (suc n) low =
         let more : i < length (xs ++ ys) = omega (arith, length-append xs ys) in
         slice_get-get_or (xs ++ ys) i None more ∙ ap Some (get_or-append xs ys None i within) ∙ sym (slice_get-get_or xs i None within)
 
-fits_there : (pre rest code : List Instruction) (tasks : Option (List Task)) → LandsIn tasks → code ≡ pre ++ (maybe_code tasks ++ rest) → Fits code (place_of (length pre) tasks) tasks
+fits_there : (pre rest code : List Instruction) (tasks : Option (List Task)) → LandsIn tasks → code ≡ pre ++ (maybe_code tasks ++ rest) → Fits code (entry_at (length pre) tasks) tasks
 fits_there pre rest code None l e = tt
 fits_there pre rest code (Some tasks) l e =
     lies_where code tasks (length pre) l (has_front code (length pre) (tasks_code tasks) rest (subst (λ c. HasAt c (length pre) (tasks_code tasks ++ rest)) (sym e) (has_all (tasks_code tasks ++ rest) pre)))
@@ -148,11 +148,11 @@ module _ (u : UnitParts) (c : Program) (code : c.instructions ≡ unit_code u (l
       elim (cases_lt function (length u.functions)) [
         | inl known ↦
             let x = code_split u function (length u.functions) known in
-            let entry : entry_of c function ≡ place_of (length (unit_code u function)) (tasks_of u function) = ap (λ l. placed (slice_get l function)) entries ∙ ap placed (entries_get u function (length u.functions) known) in
+            let entry : entry_of c function ≡ entry_at (length (unit_code u function)) (tasks_of u function) = ap (λ l. flattened (slice_get l function)) entries ∙ ap flattened (entries_get u function (length u.functions) known) in
             subst (λ o. Fits c.instructions o (tasks_of u function)) (sym entry) (fits_there (unit_code u function) x.0 c.instructions (tasks_of u function) (info_lands u function (slice_get u.functions function)) (code ∙ x.1))
         | inr past ↦
             let short : length (unit_entries u (length u.functions)) ≤ function = omega (arith, entries_length u (length u.functions)) in
-            let entry : entry_of c function ≡ None = ap (λ l. placed (slice_get l function)) entries ∙ ap placed (slice_get_past (unit_entries u (length u.functions)) function short) in
+            let entry : entry_of c function ≡ None = ap (λ l. flattened (slice_get l function)) entries ∙ ap flattened (slice_get_past (unit_entries u (length u.functions)) function short) in
             let tasks : tasks_of u function ≡ None = ap (info_tasks u function) (slice_get_past u.functions function past) in
             subst (λ o. Fits c.instructions o (tasks_of u function)) (sym entry) (subst (λ o. Fits c.instructions None o) (sym tasks) tt)
       ]

@@ -1,7 +1,7 @@
 -- Code in which each function's tasks lie at its entry follows the source thread, event by event.
 use Rattle.std.proofs.Common.{◌≡◌, ℕ, zero, suc, ◌+◌, ◌<◌, ◌==◌, Bool, true, false, List, [], ◌∷◌, Option, Some, None, Err, refl, sym, ap, ◌∙◌, subst, arith, length, if◌then◌else◌}
 use Rattle.std.specs.Prelude.{slice_get, nat_lt}
-use Rattle.core_unit.specs.Units.{UnitParts}
+use Rattle.built_unit.specs.Units.{UnitParts}
 use Rattle.mcode.specs.declared.code.Instruction.{Instruction}
 use Rattle.mcode.specs.declared.code.Instruction.TheVariants.{CheckHalt, EnterFunction, ReachFunction, SetValue, LeaveFunction, FailWith}
 use Rattle.mcode.specs.declared.events.TrapKind.{TrapKind}
@@ -21,32 +21,32 @@ use Rattle.src_model.specs.Source.{Task, Call, Check, Begin, Meet, Give, Leaving
 use Rattle.src_model.specs.Follows.{Behaves, machine_at, source_at}
 use Rattle.src_model.proofs.Determined.{settles_loud}
 
--- this instruction stands at this place
+-- this instruction stands at this pc
 abbrev pub Is : List Instruction → ℕ → Instruction → Type 0
-Is c place i = slice_get c place ≡ Some i
+Is c pc i = slice_get c pc ≡ Some i
 
--- the code of these tasks stands from this place on
+-- the code of these tasks stands from this pc on
 abbrev pub Lies : List Instruction → List Task → ℕ → Type 0
-Lies c [] place = ⊥
-Lies c (Call function site ∷ k) place =
-    Is c place CheckHalt × Is c (place + 1) (EnterFunction function site) × Lies c k (place + 1 + 1)
-Lies c (Check ∷ k) place = Is c place CheckHalt × Lies c k (place + 1)
-Lies c (Begin function site ∷ k) place = Is c place (EnterFunction function site) × Lies c k (place + 1)
-Lies c (Meet function ∷ k) place = Is c place (ReachFunction function) × Lies c k (place + 1)
-Lies c (Give number ∷ k) place = Is c place (SetValue number) × Lies c k (place + 1)
-Lies c (Leaving ∷ k) place = Is c place LeaveFunction
-Lies c (Fail kind ∷ k) place = Is c place (FailWith kind)
-Lies c (Deliver ∷ k) place = ⊥
-Lies c (Tell ∷ k) place = ⊥
-Lies c (Halting finish ∷ k) place = ⊥
-Lies c (Finished finish ∷ k) place = ⊥
+Lies c [] pc = ⊥
+Lies c (Call function site ∷ k) pc =
+    Is c pc CheckHalt × Is c (pc + 1) (EnterFunction function site) × Lies c k (pc + 1 + 1)
+Lies c (Check ∷ k) pc = Is c pc CheckHalt × Lies c k (pc + 1)
+Lies c (Begin function site ∷ k) pc = Is c pc (EnterFunction function site) × Lies c k (pc + 1)
+Lies c (Meet function ∷ k) pc = Is c pc (ReachFunction function) × Lies c k (pc + 1)
+Lies c (Give number ∷ k) pc = Is c pc (SetValue number) × Lies c k (pc + 1)
+Lies c (Leaving ∷ k) pc = Is c pc LeaveFunction
+Lies c (Fail kind ∷ k) pc = Is c pc (FailWith kind)
+Lies c (Deliver ∷ k) pc = ⊥
+Lies c (Tell ∷ k) pc = ⊥
+Lies c (Halting finish ∷ k) pc = ⊥
+Lies c (Finished finish ∷ k) pc = ⊥
 
 -- a function and its entry: both none, or its tasks lie there
 abbrev pub Fits : List Instruction → Option ℕ → Option (List Task) → Type 0
 Fits c None None = Unit {0}
 Fits c None (Some tasks) = ⊥
-Fits c (Some place) None = ⊥
-Fits c (Some place) (Some tasks) = Lies c tasks place
+Fits c (Some pc) None = ⊥
+Fits c (Some pc) (Some tasks) = Lies c tasks pc
 
 -- each function has its entry
 pub record Compiled (u : UnitParts) (c : Program) : Type 0 where
@@ -64,17 +64,17 @@ Called c (caller ∷ next ∷ callers) (frame ∷ below ∷ frames) =
     (caller.site ≡ frame.site) × Lies c caller.todo frame.back × Called c (next ∷ callers) (below ∷ frames)
 
 abbrev at : State → ℕ → List Frame → Mode → Machine
-at s place frames mode =
-    record { number = s.number; place = place; value = s.value; frames = frames; mode = mode }
+at s pc frames mode =
+    record { number = s.number; pc = pc; value = s.value; frames = frames; mode = mode }
 
 -- the thread stands where the source thread is
 data Stays (c : Program) : State → Machine → Type 0 where
-  starts : (s : State) (function place : ℕ) → Stays c (record s { todo = Check ∷ Begin function 0 ∷ []; frames = [] }) (at s place [] (Starting function))
-  goes_in : (s : State) (function place : ℕ) → Stays c (record s { todo = Begin function 0 ∷ []; frames = [] }) (at s place [] (Entering function))
-  runs : (s : State) (place : ℕ) (frames : List Frame) → Lies c.instructions s.todo place → Called c.instructions s.frames frames → Stays c s (at s place frames Running)
+  starts : (s : State) (function pc : ℕ) → Stays c (record s { todo = Check ∷ Begin function 0 ∷ []; frames = [] }) (at s pc [] (Starting function))
+  goes_in : (s : State) (function pc : ℕ) → Stays c (record s { todo = Begin function 0 ∷ []; frames = [] }) (at s pc [] (Entering function))
+  runs : (s : State) (pc : ℕ) (frames : List Frame) → Lies c.instructions s.todo pc → Called c.instructions s.frames frames → Stays c s (at s pc frames Running)
   fails : (s : State) (t : Machine) (kind : TrapKind) → Stays c (record s { todo = Fail kind ∷ [] }) (record t { mode = Failing kind })
-  delivers : (s : State) (place : ℕ) (frames : List Frame) → Stays c (record s { todo = Deliver ∷ [] }) (at s place frames Giving)
-  tells : (s : State) (place : ℕ) (frames : List Frame) → Stays c (record s { todo = Tell ∷ [] }) (at s place frames Telling)
+  delivers : (s : State) (pc : ℕ) (frames : List Frame) → Stays c (record s { todo = Deliver ∷ [] }) (at s pc frames Giving)
+  tells : (s : State) (pc : ℕ) (frames : List Frame) → Stays c (record s { todo = Tell ∷ [] }) (at s pc frames Telling)
   halts : (s : State) (t : Machine) (finish : Finish) → Stays c (record s { todo = Halting finish ∷ [] }) (record t { mode = Stopping finish })
   done : (s : State) (t : Machine) (finish : Finish) → Stays c (record s { todo = Finished finish ∷ [] }) (record t { mode = Done finish })
 
@@ -121,72 +121,72 @@ module _ (u : UnitParts) (c : Program) (compiled : Compiled u c) where
   checked_stays s t on k true h = h
   checked_stays s t on k false h = done s t Halted
 
-  begin_does : (s : State) (place : ℕ) (frames : List Frame) (mode : Mode) (room : Bool) (function site back : ℕ) (entry : Option ℕ) (body : Option (List Task)) (k : List Task) → Fits c.instructions entry body → move c (at s place frames mode) ≡ machine.enters (at s place frames mode) function site back (if room then entry_or_trap entry else Err StackOverflow) → Called c.instructions (record { todo = k; site = site } ∷ s.frames) (record { back = back; site = site } ∷ frames) → Does c (begins room s function site body k) (at s place frames mode)
-  begin_does s place frames mode false function site back entry body k fit moved called =
-      (record (at s place frames mode) { mode = Failing StackOverflow }, lead _ _ _ moved (stay _), fails s (at s place frames mode) StackOverflow)
-  begin_does s place frames mode true function site back None None k fit moved called =
-      (record (at s place frames mode) { mode = Failing NullCall }, lead _ _ _ moved (stay _), fails s (at s place frames mode) NullCall)
-  begin_does s place frames mode true function site back None (Some body) k fit moved called = absurd fit
-  begin_does s place frames mode true function site back (Some entry) None k fit moved called = absurd fit
-  begin_does s place frames mode true function site back (Some entry) (Some body) k fit moved called =
-      (at s place frames mode, stay _, _, moved, λ word. runs (record s { todo = body; frames = record { todo = k; site = site } ∷ s.frames }) entry (record { back = back; site = site } ∷ frames) fit called)
+  begin_does : (s : State) (pc : ℕ) (frames : List Frame) (mode : Mode) (room : Bool) (function site back : ℕ) (entry : Option ℕ) (body : Option (List Task)) (k : List Task) → Fits c.instructions entry body → move c (at s pc frames mode) ≡ machine.enters (at s pc frames mode) function site back (if room then entry_or_trap entry else Err StackOverflow) → Called c.instructions (record { todo = k; site = site } ∷ s.frames) (record { back = back; site = site } ∷ frames) → Does c (begins room s function site body k) (at s pc frames mode)
+  begin_does s pc frames mode false function site back entry body k fit moved called =
+      (record (at s pc frames mode) { mode = Failing StackOverflow }, lead _ _ _ moved (stay _), fails s (at s pc frames mode) StackOverflow)
+  begin_does s pc frames mode true function site back None None k fit moved called =
+      (record (at s pc frames mode) { mode = Failing NullCall }, lead _ _ _ moved (stay _), fails s (at s pc frames mode) NullCall)
+  begin_does s pc frames mode true function site back None (Some body) k fit moved called = absurd fit
+  begin_does s pc frames mode true function site back (Some entry) None k fit moved called = absurd fit
+  begin_does s pc frames mode true function site back (Some entry) (Some body) k fit moved called =
+      (at s pc frames mode, stay _, _, moved, λ word. runs (record s { todo = body; frames = record { todo = k; site = site } ∷ s.frames }) entry (record { back = back; site = site } ∷ frames) fit called)
 
   -- after the first function
-  ends_stay : (s : State) (place : ℕ) (frames : List Frame) (first : Bool) → Stays c (record s { todo = if first then Halting (Exited (signed_number s.value)) ∷ [] else Deliver ∷ [] }) (at s place frames (if first then Stopping (Exited (signed_number s.value)) else Giving))
-  ends_stay s place frames true = halts s (at s place frames Giving) (Exited (signed_number s.value))
-  ends_stay s place frames false = delivers s place frames
+  ends_stay : (s : State) (pc : ℕ) (frames : List Frame) (first : Bool) → Stays c (record s { todo = if first then Halting (Exited (signed_number s.value)) ∷ [] else Deliver ∷ [] }) (at s pc frames (if first then Stopping (Exited (signed_number s.value)) else Giving))
+  ends_stay s pc frames true = halts s (at s pc frames Giving) (Exited (signed_number s.value))
+  ends_stay s pc frames false = delivers s pc frames
 
-  leaves_stays : (s : State) (place : ℕ) (callers : List Suspended) (frames : List Frame) → Called c.instructions callers frames → Stays c (leaves (record s { frames = callers }) callers) (machine.leaves (at s place frames Running) frames)
-  leaves_stays s place [] [] b = ends_stay (record s { frames = [] }) place [] (s.number == 0)
-  leaves_stays s place [] (frame ∷ frames) b = absurd b
-  leaves_stays s place (caller ∷ callers) [] b = absurd b
-  leaves_stays s place (caller ∷ []) (frame ∷ []) b = ends_stay (record s { frames = [] }) place [] (s.number == 0)
-  leaves_stays s place (caller ∷ []) (frame ∷ below ∷ frames) b = absurd b
-  leaves_stays s place (caller ∷ next ∷ callers) (frame ∷ []) b = absurd b
-  leaves_stays s place (caller ∷ next ∷ callers) (frame ∷ below ∷ frames) b =
+  leaves_stays : (s : State) (pc : ℕ) (callers : List Suspended) (frames : List Frame) → Called c.instructions callers frames → Stays c (leaves (record s { frames = callers }) callers) (machine.leaves (at s pc frames Running) frames)
+  leaves_stays s pc [] [] b = ends_stay (record s { frames = [] }) pc [] (s.number == 0)
+  leaves_stays s pc [] (frame ∷ frames) b = absurd b
+  leaves_stays s pc (caller ∷ callers) [] b = absurd b
+  leaves_stays s pc (caller ∷ []) (frame ∷ []) b = ends_stay (record s { frames = [] }) pc [] (s.number == 0)
+  leaves_stays s pc (caller ∷ []) (frame ∷ below ∷ frames) b = absurd b
+  leaves_stays s pc (caller ∷ next ∷ callers) (frame ∷ []) b = absurd b
+  leaves_stays s pc (caller ∷ next ∷ callers) (frame ∷ below ∷ frames) b =
       runs (record s { todo = caller.todo; frames = next ∷ callers }) frame.back (below ∷ frames) b.1 b.2
 
-  -- the instruction at the place is done
-  here : (s : State) (place : ℕ) (frames : List Frame) (i : Instruction) → Is c.instructions place i → move c (at s place frames Running) ≡ does c (at s place frames Running) (Some i)
-  here s place frames i is = ap (does c (at s place frames Running)) is
+  -- the instruction at the pc is done
+  here : (s : State) (pc : ℕ) (frames : List Frame) (i : Instruction) → Is c.instructions pc i → move c (at s pc frames Running) ≡ does c (at s pc frames Running) (Some i)
+  here s pc frames i is = ap (does c (at s pc frames Running)) is
 
-  runs_do : (todo : List Task) (s : State) (place : ℕ) (frames : List Frame) → Lies c.instructions todo place → Called c.instructions s.frames frames → Does c (acts u todo s) (at s place frames Running)
-  runs_do [] s place frames l b = absurd l
-  runs_do (Call function site ∷ k) s place frames l b =
-      (at s place frames Running, stay _, runs (record s { todo = Check ∷ Begin function site ∷ k }) place frames (l.0, (l.1, l.2)) b)
-  runs_do (Check ∷ k) s place frames l b =
-      (at s place frames Running, stay _, _, here s place frames CheckHalt l.0, λ word. checked_stays s (at s place frames Running) (at s (place + 1) frames Running) k (word == 0) (runs (record s { todo = k }) (place + 1) frames l.1 b))
-  runs_do (Begin function site ∷ k) s place frames l b =
-      let moved = here s place frames (EnterFunction function site) l.0 in
+  runs_do : (todo : List Task) (s : State) (pc : ℕ) (frames : List Frame) → Lies c.instructions todo pc → Called c.instructions s.frames frames → Does c (acts u todo s) (at s pc frames Running)
+  runs_do [] s pc frames l b = absurd l
+  runs_do (Call function site ∷ k) s pc frames l b =
+      (at s pc frames Running, stay _, runs (record s { todo = Check ∷ Begin function site ∷ k }) pc frames (l.0, (l.1, l.2)) b)
+  runs_do (Check ∷ k) s pc frames l b =
+      (at s pc frames Running, stay _, _, here s pc frames CheckHalt l.0, λ word. checked_stays s (at s pc frames Running) (at s (pc + 1) frames Running) k (word == 0) (runs (record s { todo = k }) (pc + 1) frames l.1 b))
+  runs_do (Begin function site ∷ k) s pc frames l b =
+      let moved = here s pc frames (EnterFunction function site) l.0 in
       let count = called_length c.instructions s.frames frames b in
-      begin_does s place frames Running (nat_lt (length s.frames) frame_limit) function site (place + 1) (entry_of c function) (tasks_of u function) k (compiled.fits function) (moved ∙ ap (λ n. machine.enters (at s place frames Running) function site (place + 1) (if nat_lt n frame_limit then entry_or_trap (entry_of c function) else Err StackOverflow)) (sym count)) (called_more c.instructions k site (place + 1) s.frames frames l.1 b)
-  runs_do (Meet function ∷ k) s place frames l b =
+      begin_does s pc frames Running (nat_lt (length s.frames) frame_limit) function site (pc + 1) (entry_of c function) (tasks_of u function) k (compiled.fits function) (moved ∙ ap (λ n. machine.enters (at s pc frames Running) function site (pc + 1) (if nat_lt n frame_limit then entry_or_trap (entry_of c function) else Err StackOverflow)) (sym count)) (called_more c.instructions k site (pc + 1) s.frames frames l.1 b)
+  runs_do (Meet function ∷ k) s pc frames l b =
       let same = called_site c.instructions s.frames frames b in
-      (at s place frames Running, stay _, _, here s place frames (ReachFunction function) l.0 ∙ ap (λ site. Makes (Reach function site) (λ (_ : ℕ). at s (place + 1) frames Running)) (sym same), λ word. runs (record s { todo = k }) (place + 1) frames l.1 b)
-  runs_do (Give number ∷ k) s place frames l b =
-      (at (record s { value = number }) (place + 1) frames Running, lead _ _ _ (here s place frames (SetValue number) l.0) (stay _), runs (record s { todo = k; value = number }) (place + 1) frames l.1 b)
-  runs_do (Leaving ∷ k) s place frames l b =
-      (at s place frames Running, stay _, _, here s place frames LeaveFunction l, λ word. leaves_stays s place s.frames frames b)
-  runs_do (Fail kind ∷ k) s place frames l b =
-      (at s place frames (Failing kind), lead _ _ _ (here s place frames (FailWith kind) l) (stay _), _, refl, λ word. halts s (at s place frames (Failing kind)) (Trapped kind))
-  runs_do (Deliver ∷ k) s place frames l b = absurd l
-  runs_do (Tell ∷ k) s place frames l b = absurd l
-  runs_do (Halting finish ∷ k) s place frames l b = absurd l
-  runs_do (Finished finish ∷ k) s place frames l b = absurd l
+      (at s pc frames Running, stay _, _, here s pc frames (ReachFunction function) l.0 ∙ ap (λ site. Makes (Reach function site) (λ (_ : ℕ). at s (pc + 1) frames Running)) (sym same), λ word. runs (record s { todo = k }) (pc + 1) frames l.1 b)
+  runs_do (Give number ∷ k) s pc frames l b =
+      (at (record s { value = number }) (pc + 1) frames Running, lead _ _ _ (here s pc frames (SetValue number) l.0) (stay _), runs (record s { todo = k; value = number }) (pc + 1) frames l.1 b)
+  runs_do (Leaving ∷ k) s pc frames l b =
+      (at s pc frames Running, stay _, _, here s pc frames LeaveFunction l, λ word. leaves_stays s pc s.frames frames b)
+  runs_do (Fail kind ∷ k) s pc frames l b =
+      (at s pc frames (Failing kind), lead _ _ _ (here s pc frames (FailWith kind) l) (stay _), _, refl, λ word. halts s (at s pc frames (Failing kind)) (Trapped kind))
+  runs_do (Deliver ∷ k) s pc frames l b = absurd l
+  runs_do (Tell ∷ k) s pc frames l b = absurd l
+  runs_do (Halting finish ∷ k) s pc frames l b = absurd l
+  runs_do (Finished finish ∷ k) s pc frames l b = absurd l
 
   -- each step of the source thread is done by the thread
   follows : (s : State) (t : Machine) → Stays c s t → Does c (step u s) t
-  follows _ _ (starts s function place) =
-      (at s place [] (Starting function), stay _, _, refl, λ word. checked_stays (record s { frames = [] }) (at s place [] (Starting function)) (at s place [] (Entering function)) (Begin function 0 ∷ []) (word == 0) (goes_in s function place))
-  follows _ _ (goes_in s function place) =
-      begin_does (record s { todo = Begin function 0 ∷ []; frames = [] }) place [] (Entering function) true function 0 0 (entry_of c function) (tasks_of u function) [] (compiled.fits function) refl refl
-  follows _ _ (runs s place frames l b) = runs_do s.todo s place frames l b
+  follows _ _ (starts s function pc) =
+      (at s pc [] (Starting function), stay _, _, refl, λ word. checked_stays (record s { frames = [] }) (at s pc [] (Starting function)) (at s pc [] (Entering function)) (Begin function 0 ∷ []) (word == 0) (goes_in s function pc))
+  follows _ _ (goes_in s function pc) =
+      begin_does (record s { todo = Begin function 0 ∷ []; frames = [] }) pc [] (Entering function) true function 0 0 (entry_of c function) (tasks_of u function) [] (compiled.fits function) refl refl
+  follows _ _ (runs s pc frames l b) = runs_do s.todo s pc frames l b
   follows _ _ (fails s t kind) =
       (record t { mode = Failing kind }, stay _, _, refl, λ word. halts s t (Trapped kind))
-  follows _ _ (delivers s place frames) =
-      (at s place frames Giving, stay _, _, refl, λ word. tells s place frames)
-  follows _ _ (tells s place frames) =
-      (at s place frames Telling, stay _, _, refl, λ word. done s (at s place frames Telling) Returned)
+  follows _ _ (delivers s pc frames) =
+      (at s pc frames Giving, stay _, _, refl, λ word. tells s pc frames)
+  follows _ _ (tells s pc frames) =
+      (at s pc frames Telling, stay _, _, refl, λ word. done s (at s pc frames Telling) Returned)
   follows _ _ (halts s t finish) =
       (record t { mode = Stopping finish }, stay _, _, refl, λ word. done s t finish)
   follows _ _ (done s t finish) = (record t { mode = Done finish }, stay _, refl)

@@ -2,8 +2,8 @@
 use Rattle.std.proofs.Common.{◌≡◌, ℕ, ◌<◌, ◌⊎◌, inl, inr, List, Option, Some, None, Result, Ok, Err, refl, sym, subst, arith, length}
 use Rattle.std.specs.Prelude.{slice_get, IsSomeAnd, IfSome, IfOk, IfErr}
 use Rattle.std.proofs.lemmas.Option.{slice_get_within}
-use Rattle.core_unit.specs.declared.units.FunctionInfo.{FunctionInfo}
-use Rattle.core_unit.specs.Units.{UnitParts}
+use Rattle.built_unit.specs.declared.units.FunctionInfo.{FunctionInfo}
+use Rattle.built_unit.specs.Units.{UnitParts}
 use Rattle.mcode.specs.Machine.{Program}
 use Rattle.c_codegen.specs.declared.compiling.CompileRefusal.{CompileRefusal}
 use Rattle.c_codegen.specs.declared.compiling.CompileRefusal.TheVariants.{NoEntry, Undefined, Long, NoMemory}

@@ -1,6 +1,6 @@
 -- The instructions of a unit: for each function those of its tasks, one function after another.
 use Rattle.std.specs.Prelude.{ℕ, zero, suc, List, [], ◌∷◌, ◌++◌, length, Option, Some, None}
-use Rattle.core_unit.specs.Units.{UnitParts}
+use Rattle.built_unit.specs.Units.{UnitParts}
 use Rattle.mcode.specs.declared.code.Instruction.{Instruction}
 use Rattle.mcode.specs.declared.code.Instruction.TheVariants.{CheckHalt, EnterFunction, ReachFunction, SetValue, LeaveFunction, FailWith}
 use Rattle.src_model.specs.Source.{Task, Call, Check, Begin, Meet, Give, Leaving, Fail, Deliver, Tell, Halting, Finished, tasks_of}
@@ -37,11 +37,11 @@ abbrev pub unit_code : UnitParts → ℕ → List Instruction
 unit_code u zero = []
 unit_code u (suc n) = unit_code u n ++ function_code u n
 
-abbrev pub place_of : ℕ → Option (List Task) → Option ℕ
-place_of place None = None
-place_of place (Some tasks) = Some place
+abbrev pub entry_at : ℕ → Option (List Task) → Option ℕ
+entry_at pc None = None
+entry_at pc (Some tasks) = Some pc
 
 -- where the code of so many functions begins
 abbrev pub unit_entries : UnitParts → ℕ → List (Option ℕ)
 unit_entries u zero = []
-unit_entries u (suc n) = unit_entries u n ++ place_of (length (unit_code u n)) (tasks_of u n) ∷ []
+unit_entries u (suc n) = unit_entries u n ++ entry_at (length (unit_code u n)) (tasks_of u n) ∷ []

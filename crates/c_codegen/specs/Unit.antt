@@ -1,9 +1,9 @@
 -- What the compiler asks of a unit: an entry, a definition of each function that is called, and not too many nodes.
 use Rattle.std.specs.Prelude.{◌≡◌, ℕ, zero, suc, ◌+◌, ◌*◌, ◌<◌, ◌≤◌, min, List, length, Option, Some, None, IsSome, IfSome, IsSomeAnd, slice_get}
-use Rattle.core_unit.specs.declared.units.Body.{Body}
-use Rattle.core_unit.specs.declared.units.FunctionInfo.{FunctionInfo}
-use Rattle.core_unit.specs.declared.units.SiteInfo.{SiteInfo}
-use Rattle.core_unit.specs.Units.{UnitParts}
+use Rattle.built_unit.specs.declared.units.Body.{Body}
+use Rattle.built_unit.specs.declared.units.FunctionInfo.{FunctionInfo}
+use Rattle.built_unit.specs.declared.units.SiteInfo.{SiteInfo}
+use Rattle.built_unit.specs.Units.{UnitParts}
 
 -- a function with a definition and this name
 abbrev pub IsDefinedAs : List ℕ → FunctionInfo → Type 0

@@ -4,12 +4,12 @@ ghost use Rattle.src_model.specs.Follows.{Behaves};
 
 use crate::emission::emit_unit;
 use crate::unit::{entry_function, first_missing, is_long};
-use core_unit::Unit;
+use built_unit::Unit;
 use mcode::Code;
 use std::alloc::{AllocError, Global};
 
 /// Why a unit isn't compiled.
-#[derive(Clone, Copy, Debug, PartialEq, Eq)]
+#[derive(Drop)]
 pub enum CompileRefusal {
     /// no defined function has the name of the entry
     NoEntry,

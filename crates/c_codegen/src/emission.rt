@@ -2,10 +2,10 @@
 
 ghost use Rattle.std.specs.Prelude.{◌≡◌, [], ◌∷◌, ◌++◌, ◌<◌, ◌≤◌, length, OnOk, IfOk, Some, slice_get};
 ghost use Rattle.src_model.specs.Source.{callee_at, named, calls, return_of, meets, tasks_in, tasks_of};
-ghost use Rattle.c_codegen.specs.Instructions.{task_code, tasks_code, function_code, place_of, unit_code, unit_entries};
+ghost use Rattle.c_codegen.specs.Instructions.{task_code, tasks_code, function_code, entry_at, unit_code, unit_entries};
 ghost use Rattle.c_codegen.specs.Unit.{unit_nodes, node_limit};
 
-use core_unit::{Body, FunctionInfo, Unit};
+use built_unit::{Body, FunctionInfo, Unit};
 use mcode::{Code, EntryList, Instruction, InstructionList, TrapKind};
 use std::alloc::{AllocError, Global};
 
@@ -24,7 +24,7 @@ pub fn emit_unit(alloc: Global, unit: &Unit, entry: u32) -> Result<Code, AllocEr
     Ok(Code::new(instructions, entries, entry))
 }
 
-// Adds the code of a function, and the place where it begins.
+// Adds the code of a function, and the pc where it begins.
 fn emit_function(
     instructions: &mut InstructionList,
     entries: &mut EntryList,
@@ -34,7 +34,7 @@ fn emit_function(
     requires known { id < length unit.now.functions }
     requires low { length instructions.old ≤ node_limit }
     ensures code { OnOk result (instructions.new ≡ instructions.old ++ function_code unit.now id) }
-    ensures entry { OnOk result (entries.new ≡ entries.old ++ place_of (length instructions.old) (tasks_of unit.now id) ∷ []) }
+    ensures entry { OnOk result (entries.new ≡ entries.old ++ entry_at (length instructions.old) (tasks_of unit.now id) ∷ []) }
 {
     let function = unit.function(id);
     match &function.body {

@@ -6,6 +6,3 @@ mod emission;
 mod unit;
 
 pub use compiling::{CompileRefusal, compile};
-
-#[cfg(test)]
-mod tests;

@@ -3,7 +3,7 @@
 ghost use Rattle.std.specs.Prelude.{◌≡◌, ◌<◌, ◌≤◌, ◌↔◌, ◌+◌, length, min, Some, None, IsTrue, MatchOption, slice_get};
 ghost use Rattle.c_codegen.specs.Unit.{HasNoEntry, IsEntry, IsFirstMissing, missing_callee, body_nodes, unit_nodes, node_limit, return_nodes, lesser};
 
-use core_unit::{FunctionInfo, Unit};
+use built_unit::{FunctionInfo, Unit};
 
 // The least number of a defined function with this name.
 pub fn entry_function(unit: &Unit, entry: &str) -> Option<u32>

@@ -9,7 +9,7 @@ use std::marker::Model;
 pub const MAX_STEPS: usize = 257;
 
 /// A step of a stack: a function, and the call that led to it.
-#[derive(Clone, Copy, Debug, PartialEq, Eq)]
+#[derive(Clone, Copy)]
 pub struct StackStep {
     /// the number of the function
     pub target: u32,

@@ -4,9 +4,9 @@ use Rattle.std.specs.Option.{option_to_list}
 use Rattle.std.specs.List.Sorted.{IsStrictlyIncreasing}
 use Rattle.std.proofs.lemmas.List.Elements.{Contains-append_left, Contains-push, Contains-push_cases}
 use Rattle.std.proofs.lemmas.List.{append-nil, take_more}
-use Rattle.core_unit.specs.declared.units.FunctionInfo.{FunctionInfo}
-use Rattle.core_unit.specs.declared.units.SiteInfo.{SiteInfo}
-use Rattle.core_unit.specs.Units.{UnitParts}
+use Rattle.built_unit.specs.declared.units.FunctionInfo.{FunctionInfo}
+use Rattle.built_unit.specs.declared.units.SiteInfo.{SiteInfo}
+use Rattle.built_unit.specs.Units.{UnitParts}
 use Rattle.eff_types.specs.declared.levels.Level.{Level}
 use Rattle.eff_check.specs.declared.ViolationKind.{ViolationKind}
 use Rattle.eff_check.specs.declared.ViolationKind.TheVariants.{Calls}

@@ -8,9 +8,9 @@ use Rattle.eff_types.specs.declared.levels.Level.{Level}
 use Rattle.eff_types.specs.declared.levels.Level.TheVariants.{Plain}
 use Rattle.eff_types.specs.Effects.{rank, forbids}
 use Rattle.eff_types.specs.declared.levels.Effects.{Effects}
-use Rattle.core_unit.specs.declared.units.FunctionInfo.{FunctionInfo}
-use Rattle.core_unit.specs.declared.units.SiteInfo.{SiteInfo}
-use Rattle.core_unit.specs.Units.{UnitParts}
+use Rattle.built_unit.specs.declared.units.FunctionInfo.{FunctionInfo}
+use Rattle.built_unit.specs.declared.units.SiteInfo.{SiteInfo}
+use Rattle.built_unit.specs.Units.{UnitParts}
 use Rattle.eff_check.specs.declared.ViolationKind.{ViolationKind}
 use Rattle.eff_check.specs.declared.ViolationKind.TheVariants.{Calls}
 use Rattle.eff_check.specs.declared.Warning.{Warning}

@@ -1,11 +1,11 @@
 // One pass over the calls of a unit.
 ghost use Rattle.std.specs.Prelude.{◌≡◌, ◌↔◌, IsTrue, IsSome, IfOk, IfSome, IfNone};
-ghost use Rattle.core_unit.specs.Units.{IsSiteOf};
+ghost use Rattle.built_unit.specs.Units.{IsSiteOf};
 ghost use Rattle.eff_check.specs.declared.Warning.{Warning};
 ghost use Rattle.eff_check.specs.Violations.{IsBelow, Forbids, IsUnsafeFor, IsMarked, IsWarnedAt, AreWarnings};
 
 use crate::{Verdicts, ViolationKind, Warning};
-use core_unit::{FunctionInfo, SiteInfo, Unit};
+use built_unit::{FunctionInfo, SiteInfo, Unit};
 use eff_types::{Effects, Level};
 use std::alloc::{AllocError, Global};
 

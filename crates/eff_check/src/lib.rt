@@ -4,22 +4,20 @@
 ghost use Rattle.std.specs.Prelude.{◌≡◌};
 
 mod checking;
-#[cfg(test)]
-mod tests;
 
 pub use checking::check;
 use eff_types::Level;
 use std::marker::Model;
 
 /// What a marked function must not do, and does.
-#[derive(Clone, Copy, Debug, PartialEq, Eq)]
+#[derive(Clone, Copy)]
 pub enum ViolationKind {
     /// It calls the function of this number, which does not keep its level.
     Calls(u32),
 }
 
 /// A warning: what violates the level of a marked function, and where.
-#[derive(Clone, Copy, Debug, PartialEq, Eq)]
+#[derive(Clone, Copy)]
 pub struct Warning {
     /// the number of the marked function
     pub function: u32,

@@ -11,7 +11,7 @@ use crate::levels::Effects;
 use crate::types::{CType, FnType};
 
 /// How alike two types are, in the order of likeness.
-#[derive(Clone, Copy, Debug, PartialEq, Eq, PartialOrd, Ord)]
+#[derive(Clone, Copy, PartialEq, Eq, PartialOrd, Ord)]
 pub enum Likeness {
     /// Not even equal without effects.
     Different,

@@ -9,7 +9,7 @@ use crate::levels::{Level, adds};
 use crate::types::{CType, FnType};
 
 /// What a conversion that is allowed does.
-#[derive(Clone, Copy, Debug, PartialEq, Eq)]
+#[derive(Drop)]
 pub enum Conversion {
     /// Nothing: the types are equal.
     Same,
@@ -25,7 +25,7 @@ pub enum Conversion {
 }
 
 /// Why a conversion is refused.
-#[derive(Clone, Copy, Debug, PartialEq, Eq)]
+#[derive(Drop)]
 pub enum Mismatch {
     /// C has no such conversion, or has it by a cast only.
     Mismatch,

@@ -5,7 +5,7 @@ ghost use Rattle.eff_types.specs.Effects.{merged, added, shared, forbids};
 
 /// What a function promises, from the least to the most: each level promises all that those before it do
 /// (Clang's manual 'Function Effect Analysis').
-#[derive(Clone, Copy, Debug, PartialEq, Eq, PartialOrd, Ord)]
+#[derive(Clone, Copy, PartialEq, Eq, PartialOrd, Ord)]
 pub enum Level {
     /// Nothing is promised.
     Plain,
@@ -17,7 +17,7 @@ pub enum Level {
 
 /// The effects of a function or a function type, as its declarations give them
 /// (Clang's manual 'Function Effect Analysis').
-#[derive(Clone, Copy, Debug, PartialEq, Eq)]
+#[derive(Clone, Copy, PartialEq, Eq)]
 pub struct Effects {
     /// The level that is asked for.
     pub level: Level,
@@ -42,7 +42,7 @@ impl Effects {
 }
 
 /// The declarations of one function ask for a level that their flags forbid.
-#[derive(Clone, Copy, Debug, PartialEq, Eq)]
+#[derive(Drop)]
 pub struct Conflict;
 
 /// The union of two declarations' effects: the greater level, and each flag that either sets.

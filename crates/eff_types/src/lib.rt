@@ -5,8 +5,6 @@ mod comparison;
 mod conversions;
 mod laws;
 mod levels;
-#[cfg(test)]
-mod tests;
 mod types;
 
 pub use comparison::{equal, equal_signatures, equal_up_to_outer_effects};

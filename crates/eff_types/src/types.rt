@@ -11,7 +11,7 @@ use std::alloc::{AllocError, Global};
 pub type TypeList = Items<CType>;
 
 /// A type of C (C17 6.2.5), without qualifiers.
-#[derive(Debug, Drop)]
+#[derive(Drop)]
 #[cycle(ctype)]
 pub enum CType {
     Void,
@@ -30,7 +30,7 @@ pub enum CType {
 }
 
 /// A function's type (C17 6.7.6.3), with its effects.
-#[derive(Debug, Drop)]
+#[derive(Drop)]
 #[cycle(ctype)]
 pub struct FnType {
     pub result: Boxed<CType>,

@@ -29,7 +29,7 @@ unless_counts t on word e = chosen (word == 0) e
     chosen false e = refl
 
 enters_counts : (t : Machine) (function site back : ℕ) (way : Result ℕ TrapKind) → Counts t (enters t function site back way)
-enters_counts t function site back (Ok place) = λ _. omega arith
+enters_counts t function site back (Ok pc) = λ _. omega arith
 enters_counts t function site back (Err kind) = refl
 
 leaves_counts : (t : Machine) (frames : List Frame) → t.frames ≡ frames → depth (leaves t frames) ≡ length frames - 1
@@ -38,9 +38,9 @@ leaves_counts t (frame ∷ []) e = omega arith
 leaves_counts t (frame ∷ below ∷ frames) e = omega arith
 
 does_counts : (c : Program) (t : Machine) (i : Option Instruction) → Counts t (does c t i)
-does_counts c t (Some CheckHalt) = λ word. unless_counts t (record t { place = t.place + 1 }) word refl
+does_counts c t (Some CheckHalt) = λ word. unless_counts t (record t { pc = t.pc + 1 }) word refl
 does_counts c t (Some (EnterFunction function site)) =
-    enters_counts t function site (t.place + 1) (way_in c t function)
+    enters_counts t function site (t.pc + 1) (way_in c t function)
 does_counts c t (Some (ReachFunction function)) = λ _. refl
 does_counts c t (Some (SetValue number)) = refl
 does_counts c t (Some LeaveFunction) = λ _. leaves_counts t t.frames refl
@@ -50,7 +50,7 @@ does_counts c t None = refl
 moves_counts : (c : Program) (t : Machine) (m : Mode) → Counts t (moves c t m)
 moves_counts c t (Starting function) = λ word. unless_counts t (record t { mode = Entering function }) word refl
 moves_counts c t (Entering function) = enters_counts t function 0 0 (way_in c t function)
-moves_counts c t Running = does_counts c t (slice_get c.instructions t.place)
+moves_counts c t Running = does_counts c t (slice_get c.instructions t.pc)
 moves_counts c t (Failing kind) = λ _. refl
 moves_counts c t Giving = λ _. refl
 moves_counts c t Telling = λ _. refl

@@ -14,7 +14,7 @@ use Rattle.mcode.specs.Machine.{Program, Machine, move, moves, does, enters, way
 abbrev pub ranks : Program → Machine → Mode → ℕ
 ranks c t (Starting function) = 0
 ranks c t (Entering function) = 1
-ranks c t Running = length c.instructions - t.place + 1
+ranks c t Running = length c.instructions - t.pc + 1
 ranks c t (Failing kind) = 0
 ranks c t Giving = 0
 ranks c t Telling = 0
@@ -39,18 +39,18 @@ abbrev Falls : Program → Machine → ℕ → Step Machine → ℕ → Type 0
 Falls c t word step n = is_quiet step ≡ true → rank c (answered step t word) < n
 
 enters_falls : (c : Program) (t : Machine) (function site back word n : ℕ) (way : Result ℕ TrapKind) → Falls c t word (enters t function site back way) (suc n)
-enters_falls c t function site back word n (Ok place) q = cc
+enters_falls c t function site back word n (Ok pc) q = cc
 enters_falls c t function site back word n (Err kind) q = omega arith
 
-does_falls : (c : Program) (t : Machine) (word : ℕ) (i : Option Instruction) → slice_get c.instructions t.place ≡ i → t.mode ≡ Running → Falls c t word (does c t i) (suc (length c.instructions - t.place))
+does_falls : (c : Program) (t : Machine) (word : ℕ) (i : Option Instruction) → slice_get c.instructions t.pc ≡ i → t.mode ≡ Running → Falls c t word (does c t i) (suc (length c.instructions - t.pc))
 does_falls c t word (Some CheckHalt) e m q = cc
 does_falls c t word (Some (EnterFunction function site)) e m q =
-    enters_falls c t function site (t.place + 1) word (length c.instructions - t.place) (way_in c t function) q
+    enters_falls c t function site (t.pc + 1) word (length c.instructions - t.pc) (way_in c t function) q
 does_falls c t word (Some (ReachFunction function)) e m q = cc
 does_falls c t word (Some (SetValue number)) e m q =
-    let within = slice_get_within c.instructions t.place (SetValue number) e in
-    let less : length c.instructions - (t.place + 1) + 1 < suc (length c.instructions - t.place) = omega arith in
-    subst (λ mode. ranks c (record t { place = t.place + 1; value = number }) mode < suc (length c.instructions - t.place)) (sym m) less
+    let within = slice_get_within c.instructions t.pc (SetValue number) e in
+    let less : length c.instructions - (t.pc + 1) + 1 < suc (length c.instructions - t.pc) = omega arith in
+    subst (λ mode. ranks c (record t { pc = t.pc + 1; value = number }) mode < suc (length c.instructions - t.pc)) (sym m) less
 does_falls c t word (Some LeaveFunction) e m q = cc
 does_falls c t word (Some (FailWith kind)) e m q = omega arith
 does_falls c t word None e m q = omega arith
@@ -59,7 +59,7 @@ falls : (c : Program) (t : Machine) (word : ℕ) (m : Mode) → t.mode ≡ m →
 falls c t word (Starting function) e q = cc
 falls c t word (Entering function) e q = enters_falls c t function 0 0 word 0 (way_in c t function) q
 falls c t word Running e q =
-    let h = does_falls c t word (slice_get c.instructions t.place) refl e q in omega (arith, h)
+    let h = does_falls c t word (slice_get c.instructions t.pc) refl e q in omega (arith, h)
 falls c t word (Failing kind) e q = cc
 falls c t word Giving e q = cc
 falls c t word Telling e q = cc

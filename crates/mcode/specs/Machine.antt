@@ -13,16 +13,16 @@ use Rattle.mcode.specs.declared.thread.Mode.TheVariants.{Starting, Entering, Run
 use Rattle.mcode.specs.Words.{halt, done_of, result_of, number_word, signed_number}
 use Rattle.mcode.specs.Steps.{Step, Quiet, Makes, Ends, asked, answered}
 
--- code: its instructions, for each function the place of its first one, and the entry function
+-- code: its instructions, for each function the pc (the number in the code) of its first one, and the entry function
 pub record Program : Type 0 where
   pub instructions : List Instruction
   pub entries : List (Option ℕ)
   pub entry : ℕ
 
--- a thread: its number, the place of its next instruction, its value, its frames, the latest first, and what it is at
+-- a thread: its number, its pc (the number of its next instruction), its value, its frames, the latest first, and what it is at
 pub record Machine : Type 0 where
   pub number : ℕ
-  pub place : ℕ
+  pub pc : ℕ
   pub value : ℕ
   pub frames : List Frame
   pub mode : Mode
@@ -31,18 +31,18 @@ pub record Machine : Type 0 where
 abbrev pub frame_limit : ℕ
 frame_limit = 256
 
-abbrev pub placed : Option (Option ℕ) → Option ℕ
-placed None = None
-placed (Some place) = place
+abbrev pub flattened : Option (Option ℕ) → Option ℕ
+flattened None = None
+flattened (Some pc) = pc
 
 -- where the code of a function begins; none where it has no definition
 abbrev pub entry_of : Program → ℕ → Option ℕ
-entry_of c function = placed (slice_get c.entries function)
+entry_of c function = flattened (slice_get c.entries function)
 
--- the place to go to, or why there is none
+-- the pc to go to, or why there is none
 abbrev pub entry_or_trap : Option ℕ → Result ℕ TrapKind
 entry_or_trap None = Err NullCall
-entry_or_trap (Some place) = Ok place
+entry_or_trap (Some pc) = Ok pc
 
 -- the way into a function: its first instruction, where a frame has room
 abbrev pub way_in : Program → Machine → ℕ → Result ℕ TrapKind
@@ -50,8 +50,8 @@ way_in c t function =
     if nat_lt (length t.frames) frame_limit then entry_or_trap (entry_of c function) else Err StackOverflow
 
 abbrev pub enters : Machine → (function site back : ℕ) → Result ℕ TrapKind → Step Machine
-enters t function site back (Ok place) =
-    Makes (Enter function site) (λ _. record t { place = place; frames = record { back = back; site = site } ∷ t.frames; mode = Running })
+enters t function site back (Ok pc) =
+    Makes (Enter function site) (λ _. record t { pc = pc; frames = record { back = back; site = site } ∷ t.frames; mode = Running })
 enters t function site back (Err kind) = Quiet (record t { mode = Failing kind })
 
 -- a halt word that isn't 0 ends the thread; else it goes on so
@@ -71,15 +71,15 @@ left_by t = if t.number == 0 then Stopping (Exited (signed_number t.value)) else
 abbrev pub leaves : Machine → List Frame → Machine
 leaves t [] = record t { mode = left_by t }
 leaves t (frame ∷ []) = record t { frames = []; mode = left_by t }
-leaves t (frame ∷ below ∷ frames) = record t { place = frame.back; frames = below ∷ frames }
+leaves t (frame ∷ below ∷ frames) = record t { pc = frame.back; frames = below ∷ frames }
 
 -- what an instruction does; past the last one nothing has a value
 abbrev pub does : Program → Machine → Option Instruction → Step Machine
-does c t (Some CheckHalt) = Makes (Load halt) (λ word. unless_halted t word (record t { place = t.place + 1 }))
-does c t (Some (EnterFunction function site)) = enters t function site (t.place + 1) (way_in c t function)
+does c t (Some CheckHalt) = Makes (Load halt) (λ word. unless_halted t word (record t { pc = t.pc + 1 }))
+does c t (Some (EnterFunction function site)) = enters t function site (t.pc + 1) (way_in c t function)
 does c t (Some (ReachFunction function)) =
-    Makes (Reach function (site_on_top t.frames)) (λ _. record t { place = t.place + 1 })
-does c t (Some (SetValue number)) = Quiet (record t { place = t.place + 1; value = number })
+    Makes (Reach function (site_on_top t.frames)) (λ _. record t { pc = t.pc + 1 })
+does c t (Some (SetValue number)) = Quiet (record t { pc = t.pc + 1; value = number })
 does c t (Some LeaveFunction) = Makes Leave (λ _. leaves t t.frames)
 does c t (Some (FailWith kind)) = Quiet (record t { mode = Failing kind })
 does c t None = Quiet (record t { mode = Failing NoValue })
@@ -88,7 +88,7 @@ does c t None = Quiet (record t { mode = Failing NoValue })
 abbrev pub moves : Program → Machine → Mode → Step Machine
 moves c t (Starting function) = Makes (Load halt) (λ word. unless_halted t word (record t { mode = Entering function }))
 moves c t (Entering function) = enters t function 0 0 (way_in c t function)
-moves c t Running = does c t (slice_get c.instructions t.place)
+moves c t Running = does c t (slice_get c.instructions t.pc)
 moves c t (Failing kind) = Makes (Trap kind) (λ _. record t { mode = Stopping (Trapped kind) })
 moves c t Giving = Makes (Store (result_of t.number) (number_word t.value)) (λ _. record t { mode = Telling })
 moves c t Telling = Makes (Store (done_of t.number) 1) (λ _. record t { mode = Done Returned })
@@ -120,7 +120,7 @@ machine_after c t word = park c (length c.instructions + 2) (answered (move c t)
 -- a thread at its start, before the first function is entered
 abbrev pub started : (number function : ℕ) → Machine
 started number function =
-    record { number = number; place = 0; value = 0; frames = []; mode = Starting function }
+    record { number = number; pc = 0; value = 0; frames = []; mode = Starting function }
 
 -- a thread that is cut short: the store of halt is the one event left
 abbrev pub cut_short : Machine → Machine

@@ -1,4 +1,4 @@
-//! Code: numbered instructions, and for each function the place of its first one.
+//! Code: numbered instructions, and for each function the pc, the number in the code, of its first one.
 
 ghost use Rattle.std.specs.Prelude.{◌≡◌, ◌∷◌, [], ◌++◌, ◌<◌, ◌≤◌, ◌^◌, length, OnOk, OnErr, IfSome, OnSome, slice_get};
 
@@ -7,7 +7,7 @@ use std::alloc::{AllocError, Global};
 use std::marker::Model;
 
 /// An instruction of the plain machine.
-#[derive(Clone, Copy, Debug, PartialEq, Eq)]
+#[derive(Clone, Copy)]
 pub enum Instruction {
     /// loads the halt word, and ends the thread where it isn't 0
     CheckHalt,
@@ -72,7 +72,7 @@ impl InstructionList {
     }
 }
 
-/// A list of places, one for each function; none for a function without a definition.
+/// A list of entries: for each function the pc of its first instruction, none for one without a definition.
 #[derive(Drop)]
 pub struct EntryList {
     items: Vec<Option<u32>>,
@@ -87,7 +87,7 @@ impl Model for EntryList {
 }
 
 impl EntryList {
-    /// The list without places; it takes no memory.
+    /// The list without entries; it takes no memory.
     pub fn new(alloc: Global) -> EntryList
         ensures { result ≡ [] }
     {
@@ -96,16 +96,16 @@ impl EntryList {
         }
     }
 
-    /// Adds the place of the next function; where memory is refused, the list stays as it was.
-    pub fn push(&mut self, place: Option<u32>) -> Result<(), AllocError>
-        ensures ok { OnOk result (self.new ≡ self.old ++ place ∷ []) }
+    /// Adds the entry of the next function; where memory is refused, the list stays as it was.
+    pub fn push(&mut self, pc: Option<u32>) -> Result<(), AllocError>
+        ensures ok { OnOk result (self.new ≡ self.old ++ pc ∷ []) }
         ensures err { OnErr result (self.new ≡ self.old) }
     {
-        self.items.push(place)?;
+        self.items.push(pc)?;
         Ok(())
     }
 
-    /// The places in order of the functions' numbers.
+    /// The entries in order of the functions' numbers.
     pub fn as_slice(&self) -> &[Option<u32>]
         ensures { result.now ≡ self.now }
     {
@@ -113,7 +113,7 @@ impl EntryList {
     }
 }
 
-/// Code: at most 2^21 instructions, the place of each function's first one, and the entry function.
+/// Code: at most 2^21 instructions, the pc of each function's first one, and the entry function.
 #[derive(Drop)]
 pub struct Code {
     instructions: InstructionList,
@@ -156,21 +156,21 @@ impl Code {
         self.entry
     }
 
-    /// The instruction at a place, which counts from 0; none behind the last one, of at most 2^21.
-    pub fn instruction(&self, place: u32) -> Option<Instruction>
-        ensures found { result ≡ slice_get self.now.instructions place }
-        ensures low { OnSome result (place < 2 ^ 21) }
-        ensures within { OnSome result (place < length self.now.instructions) }
+    /// The instruction at this pc, which counts from 0; none behind the last one, of at most 2^21.
+    pub fn instruction(&self, pc: u32) -> Option<Instruction>
+        ensures found { result ≡ slice_get self.now.instructions pc }
+        ensures low { OnSome result (pc < 2 ^ 21) }
+        ensures within { OnSome result (pc < length self.now.instructions) }
     {
-        self.instructions.as_slice().get(place as usize).copied()
+        self.instructions.as_slice().get(pc as usize).copied()
     }
 
-    /// The place of the first instruction of a function; none where it has no definition.
+    /// The pc of the first instruction of a function; none where it has no definition.
     pub fn entry_of(&self, function: u32) -> Option<u32>
         ensures { result ≡ entry_of self.now function }
     {
         match self.entries.as_slice().get(function as usize) {
-            Some(place) => *place,
+            Some(pc) => *pc,
             None => None,
         }
     }

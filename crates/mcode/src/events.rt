@@ -1,7 +1,7 @@
 //! What a thread does that others can see: its events, the answers to them, and how it ends.
 
 /// Why a thread is trapped (undefined behavior that is caught; this project's own list).
-#[derive(Clone, Copy, Debug, PartialEq, Eq)]
+#[derive(Clone, Copy)]
 pub enum TrapKind {
     /// an access through a null pointer
     NullAccess,
@@ -34,7 +34,7 @@ pub enum TrapKind {
 }
 
 /// How a thread is finished.
-#[derive(Clone, Copy, Debug, PartialEq, Eq)]
+#[derive(Clone, Copy)]
 pub enum Finish {
     /// a thread other than thread 0 left its first function
     Returned,
@@ -47,7 +47,7 @@ pub enum Finish {
 }
 
 /// The next event of a thread, or its finish.
-#[derive(Clone, Copy, Debug, PartialEq, Eq)]
+#[derive(Clone, Copy)]
 pub enum Ask {
     /// reads the word at an address; answered by that word
     Load(u32),
@@ -76,7 +76,7 @@ pub enum Ask {
 }
 
 /// What an answer did.
-#[derive(Clone, Copy, Debug, PartialEq, Eq)]
+#[derive(Clone, Copy)]
 pub enum Turned {
     /// the thread went on
     Went,

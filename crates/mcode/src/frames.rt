@@ -9,9 +9,9 @@ use std::marker::Model;
 pub const FRAMES: usize = 256;
 
 /// A function that was entered and not yet left.
-#[derive(Clone, Copy, Debug, PartialEq, Eq)]
+#[derive(Clone, Copy)]
 pub struct Frame {
-    /// the place of the instruction to go back to
+    /// the pc of the instruction to go back to
     pub back: u32,
     /// the call site from which it was entered; 0 for the first function of the thread
     pub site: u32,

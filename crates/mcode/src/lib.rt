@@ -11,6 +11,3 @@ pub use code::{Code, EntryList, Instruction, InstructionList};
 pub use events::{Ask, Finish, TrapKind, Turned};
 pub use frames::Frame;
 pub use thread::{Mode, Thread};
-
-#[cfg(test)]
-mod tests;

@@ -11,7 +11,7 @@ use std::alloc::{AllocError, Global};
 use std::marker::Model;
 
 /// What a thread is at.
-#[derive(Clone, Copy, Debug, PartialEq, Eq)]
+#[derive(Clone, Copy)]
 pub enum Mode {
     /// the load of halt before the first function, by its number
     Starting(u32),
@@ -35,7 +35,7 @@ pub enum Mode {
 #[derive(Drop)]
 pub struct Thread {
     number: u32,
-    place: u32,
+    pc: u32,
     value: u32,
     frames: FrameStack,
     mode: Mode,
@@ -47,7 +47,7 @@ impl Model for Thread {
 
     ghost Value = { Machine };
 
-    ghost view = { λ t. record { number = t.number; place = t.place; value = t.value; frames = t.frames; mode = t.mode } };
+    ghost view = { λ t. record { number = t.number; pc = t.pc; value = t.value; frames = t.frames; mode = t.mode } };
 
     ghost invariant = { λ t. t.number < 64 };
 }
@@ -63,7 +63,7 @@ impl Thread {
         let frames = FrameStack::blank(alloc)?;
         Ok(Thread {
             number: 0,
-            place: 0,
+            pc: 0,
             value: 0,
             frames,
             mode: Mode::Done(Finish::Halted),
@@ -77,7 +77,7 @@ impl Thread {
         ensures { self.new ≡ started number function }
     {
         self.number = number;
-        self.place = 0;
+        self.pc = 0;
         self.value = 0;
         self.frames.clear();
         self.mode = Mode::Starting(function);
@@ -95,7 +95,7 @@ impl Thread {
                 Ok(_) => Ask::Enter(function, 0),
                 Err(_) => Ask::Over(Finish::Halted),
             },
-            Mode::Running => self.next_of(code, code.instruction(self.place)),
+            Mode::Running => self.next_of(code, code.instruction(self.pc)),
             Mode::Failing(kind) => Ask::Trap(kind),
             Mode::Giving => Ask::Store(RESULT + self.number, number_word(self.value)),
             Mode::Telling => Ask::Store(DONE + self.number, 1),
@@ -157,7 +157,7 @@ impl Thread {
         }
     }
 
-    // The place of the first instruction of a function, where a frame has room.
+    // The pc of the first instruction of a function, where a frame has room.
     fn way_in(&self, code: &Code, function: u32) -> Result<u32, TrapKind>
         ensures { result ≡ way_in code.now self.now function }
     {
@@ -165,7 +165,7 @@ impl Thread {
             return Err(TrapKind::StackOverflow);
         }
         match code.entry_of(function) {
-            Some(place) => Ok(place),
+            Some(pc) => Ok(pc),
             None => Err(TrapKind::NullCall),
         }
     }
@@ -176,7 +176,7 @@ impl Thread {
     {
         match self.mode {
             Mode::Entering(function) => self.way_in(code, function).is_err(),
-            Mode::Running => match code.instruction(self.place) {
+            Mode::Running => match code.instruction(self.pc) {
                 Some(Instruction::EnterFunction { function, .. }) => {
                     self.way_in(code, function).is_err()
                 }
@@ -221,25 +221,25 @@ impl Thread {
         };
     }
 
-    // Does the instruction at the place, whose event, if any, this word answers.
+    // Does the instruction at the pc, whose event, if any, this word answers.
     fn run(&mut self, code: &Code, word: u64)
-        ensures { self.new ≡ answered (does code.now self.old (slice_get code.now.instructions self.old.place)) self.old word }
+        ensures { self.new ≡ answered (does code.now self.old (slice_get code.now.instructions self.old.pc)) self.old word }
     {
-        match code.instruction(self.place) {
+        match code.instruction(self.pc) {
             Some(Instruction::CheckHalt) => {
                 if word == 0 {
-                    self.place += 1;
+                    self.pc += 1;
                 } else {
                     self.mode = Mode::Done(Finish::Halted);
                 }
             }
             Some(Instruction::EnterFunction { function, site }) => {
-                let back = self.place + 1;
+                let back = self.pc + 1;
                 self.enter(code, function, site, back);
             }
-            Some(Instruction::ReachFunction { .. }) => self.place += 1,
+            Some(Instruction::ReachFunction { .. }) => self.pc += 1,
             Some(Instruction::SetValue(number)) => {
-                self.place += 1;
+                self.pc += 1;
                 self.value = number;
             }
             Some(Instruction::LeaveFunction) => self.leave(),
@@ -253,9 +253,9 @@ impl Thread {
         ensures { self.new ≡ answered (enters self.old function site back (way_in code.now self.old function)) self.old 0 }
     {
         match self.way_in(code, function) {
-            Ok(place) => {
+            Ok(pc) => {
                 self.frames.push(Frame { back, site });
-                self.place = place;
+                self.pc = pc;
                 self.mode = Mode::Running;
             }
             Err(kind) => self.mode = Mode::Failing(kind),
@@ -268,7 +268,7 @@ impl Thread {
     {
         let back = self.frames.pop().map_or(0, |frame| frame.back);
         if self.frames.len() > 0 {
-            self.place = back;
+            self.pc = back;
         } else {
             self.mode = self.left_by();
         }

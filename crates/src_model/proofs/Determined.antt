@@ -1,6 +1,6 @@
 -- The source thread is deterministic.
 use Rattle.std.proofs.Common.{◌≡◌, ℕ, zero, suc, ◌<◌, Bool, true, false, List, [], ◌∷◌, Option, Some, None, refl, sym, ◌∙◌, arith, length, nat_lt}
-use Rattle.core_unit.specs.Units.{UnitParts}
+use Rattle.built_unit.specs.Units.{UnitParts}
 use Rattle.mcode.specs.declared.events.Ask.{Ask}
 use Rattle.mcode.specs.Steps.{Step, Quiet, Makes, Ends, is_quiet, settle, unless_quiet, asked}
 use Rattle.src_model.specs.Source.{Task, Call, Check, Begin, Meet, Give, Leaving, Fail, Deliver, Tell, Halting, Finished, State, frame_limit, tasks_of, begins, acts, step, turns, settles, after}

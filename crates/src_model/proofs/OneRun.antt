@@ -1,7 +1,7 @@
 -- A unit has one run from an entry.
 use Rattle.std.proofs.Common.{◌≡◌, ℕ, suc, ◌<◌, List, [], ◌∷◌, length, Some, None, ◌⊎◌, inl, inr, refl, sym, ap, ap₂, ◌∙◌, arith}
 use Rattle.std.proofs.lemmas.Bool.{cases_eq, cases_order}
-use Rattle.core_unit.specs.Units.{UnitParts}
+use Rattle.built_unit.specs.Units.{UnitParts}
 use Rattle.mcode.specs.declared.events.Ask.{Ask}
 use Rattle.src_model.specs.declared.runs.Made.{Made}
 use Rattle.src_model.specs.declared.runs.End.{End}

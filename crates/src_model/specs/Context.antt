@@ -4,8 +4,8 @@ use Rattle.std.specs.Prelude.{ℕ, Bool, true, false, ◌&&◌, List, [], ◌∷
 use Rattle.std.specs.List.{list_any}
 use Rattle.eff_types.specs.declared.levels.Level.{Level}
 use Rattle.eff_types.specs.declared.levels.Level.TheVariants.{Plain, NonAllocating, NonBlocking}
-use Rattle.core_unit.specs.declared.units.FunctionInfo.{FunctionInfo}
-use Rattle.core_unit.specs.Units.{UnitParts}
+use Rattle.built_unit.specs.declared.units.FunctionInfo.{FunctionInfo}
+use Rattle.built_unit.specs.Units.{UnitParts}
 use Rattle.mcode.specs.declared.events.Ask.{Ask}
 use Rattle.mcode.specs.declared.events.Ask.TheVariants.{Enter, Leave, Reach}
 use Rattle.ctx_set.specs.declared.steps.StackStep.{StackStep}

@@ -1,6 +1,6 @@
 -- When code is compiled from a unit: event by event it does what the source thread does.
 use Rattle.std.specs.Prelude.{◌≡◌, ℕ, List}
-use Rattle.core_unit.specs.Units.{UnitParts}
+use Rattle.built_unit.specs.Units.{UnitParts}
 use Rattle.mcode.specs.Steps.{reached}
 use Rattle.mcode.specs.Machine.{Program, Machine, machine_next, machine_after, started, cut_short}
 use Rattle.src_model.specs.Source.{State, next, after, start, cut}

@@ -1,7 +1,7 @@
 -- A run of one thread: a trace of the source thread over a legal history of the memory, up to its ending (this project's
 -- own rules on events and endings). Traces stand with the latest event first.
 use Rattle.std.specs.Prelude.{◌≡◌, ℕ, Bool, true, false, not, ◌||◌, List, [], ◌∷◌, length, Option, Some, None, nat_lt, if◌then◌else◌}
-use Rattle.core_unit.specs.Units.{UnitParts}
+use Rattle.built_unit.specs.Units.{UnitParts}
 use Rattle.mcode.specs.declared.events.Ask.{Ask}
 use Rattle.mcode.specs.declared.events.Ask.TheVariants.{Store, Trap, Over}
 use Rattle.mcode.specs.declared.events.Finish.{Finish}

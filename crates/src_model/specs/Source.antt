@@ -1,10 +1,10 @@
 -- The source thread: one C thread of a unit, as what remains to be done (C17, sections 6.5.2.2 and 6.8; the events are
 -- this project's own). One rule a line.
 use Rattle.std.specs.Prelude.{ℕ, suc, ◌-◌, ◌==◌, Bool, true, false, List, [], ◌∷◌, length, Option, Some, None, slice_get, nat_lt, if◌then◌else◌}
-use Rattle.core_unit.specs.declared.units.Body.{Body}
-use Rattle.core_unit.specs.declared.units.FunctionInfo.{FunctionInfo}
-use Rattle.core_unit.specs.declared.units.SiteInfo.{SiteInfo}
-use Rattle.core_unit.specs.Units.{UnitParts}
+use Rattle.built_unit.specs.declared.units.Body.{Body}
+use Rattle.built_unit.specs.declared.units.FunctionInfo.{FunctionInfo}
+use Rattle.built_unit.specs.declared.units.SiteInfo.{SiteInfo}
+use Rattle.built_unit.specs.Units.{UnitParts}
 use Rattle.mcode.specs.declared.events.TrapKind.{TrapKind}
 use Rattle.mcode.specs.declared.events.TrapKind.TheVariants.{NullCall, StackOverflow}
 use Rattle.mcode.specs.declared.events.Ask.{Ask}

@@ -1,6 +1,6 @@
 ghost use Rattle.src_model.specs.Laws.{IsDeterministic};
 
-use core_unit::Unit;
+use built_unit::Unit;
 
 /// The law of one event: each state of a thread of the unit that isn't finished has exactly one
 /// next event, whose address, if it has one, is below 1,048,768; and equal starts with equal

@@ -8,7 +8,7 @@ use std::mem;
 use std::snapshot::Snapshot;
 
 /// How a thread ended.
-#[derive(Clone, Copy, Debug, PartialEq, Eq)]
+#[derive(Clone, Copy)]
 pub enum End {
     /// a thread other than thread 0 left its first function
     Returned,
@@ -27,7 +27,7 @@ pub enum End {
 }
 
 /// An event that a thread made, with the word that answered it; the word is 0 where nothing answers.
-#[derive(Clone, Copy, Debug, PartialEq, Eq)]
+#[derive(Clone, Copy)]
 pub struct Made {
     pub ask: Ask,
     pub word: u64,

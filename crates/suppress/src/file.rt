@@ -16,7 +16,7 @@ const LINE_LIMIT: u32 = 1000;
 const OVER_LINE_LIMIT: u8 = 3;
 
 /// Why a suppression file was refused.
-#[derive(Clone, Copy, Debug, Drop, Error, PartialEq, Eq)]
+#[derive(Debug, Drop, Error)]
 pub enum SupRefusal {
     /// The first bad line, counted from 1, and its fault: 1 unknown kind, 2 empty pattern, 3 past the
     /// thousandth line.

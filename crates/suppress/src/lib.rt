@@ -13,6 +13,3 @@ mod suppressions;
 pub use file::{SupRefusal, read};
 pub use pattern::{Pattern, Piece, PieceList};
 pub use suppressions::{Suppression, SuppressionKind, Suppressions};
-
-#[cfg(test)]
-mod tests;

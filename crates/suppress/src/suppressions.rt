@@ -6,7 +6,7 @@ use crate::pattern::Pattern;
 use std::marker::Model;
 
 /// What a suppression is compared with.
-#[derive(Clone, Copy, Debug, PartialEq, Eq)]
+#[derive(Clone, Copy, PartialEq, Eq)]
 pub enum SuppressionKind {
     /// `function-name-matches`: the name of the function that was called.
     FunctionNameMatches,

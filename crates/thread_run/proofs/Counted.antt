@@ -1,7 +1,7 @@
 -- What the count of `nonblocking` functions tells.
 use Rattle.std.proofs.Common.{◌≡◌, ◌+◌, ◌≤◌, Bool, true, false, ◌||◌, List, [], ◌∷◌, refl, arith, length, nat_lt, if◌then◌else◌}
 use Rattle.std.proofs.lemmas.Bool.Decides.{nat_tests}
-use Rattle.core_unit.specs.Units.{UnitParts}
+use Rattle.built_unit.specs.Units.{UnitParts}
 use Rattle.ctx_set.specs.declared.steps.StackStep.{StackStep}
 use Rattle.src_model.specs.Context.{is_nonblocking, is_real_time}
 use Rattle.thread_run.specs.Functions.{nonblocking_among}

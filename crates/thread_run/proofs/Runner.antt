@@ -1,6 +1,6 @@
 -- What the runner holds belongs to its trace, from the start to the ending.
 use Rattle.std.proofs.Common.{◌≡◌, suc, ◌<◌, ◌||◌, List, [], ◌∷◌, Some, None, refl, sym, ap, ◌∙◌, subst, arith, length}
-use Rattle.core_unit.specs.Units.{UnitParts}
+use Rattle.built_unit.specs.Units.{UnitParts}
 use Rattle.mcode.specs.declared.events.Ask.{Ask}
 use Rattle.mcode.specs.Machine.{Program, machine_next, machine_after, cut_short}
 use Rattle.src_model.specs.declared.runs.Made.{Made}

@@ -2,7 +2,7 @@
 use Rattle.std.proofs.Common.{◌≡◌, ℕ, suc, ◌+◌, ◌-◌, ◌<◌, ◌≤◌, Bool, true, false, ◌||◌, List, [], ◌∷◌, Option, Some, None, Result, Ok, Err, refl, sym, ap, ◌∙◌, subst, arith, length, nat_lt, if◌then◌else◌}
 use Rattle.std.specs.Prelude.{slice_get, reverse}
 use Rattle.std.proofs.lemmas.Bool.Decides.{nat_tests}
-use Rattle.core_unit.specs.Units.{UnitParts}
+use Rattle.built_unit.specs.Units.{UnitParts}
 use Rattle.ctx_set.specs.declared.steps.StackStep.{StackStep}
 use Rattle.mcode.specs.declared.code.Instruction.{Instruction}
 use Rattle.mcode.specs.declared.code.Instruction.TheVariants.{CheckHalt, EnterFunction, ReachFunction, SetValue, LeaveFunction, FailWith}
@@ -74,13 +74,13 @@ late_plain u frames c t (Stopping finish) events low = (refl, refl)
 late_plain u frames c t (Done finish) events low = (refl, refl)
 
 enters_open : (t : Machine) (function site back : ℕ) (way : Result ℕ TrapKind) → is_ending (asked (enters t function site back way)) ≡ false
-enters_open t function site back (Ok place) = refl
+enters_open t function site back (Ok pc) = refl
 enters_open t function site back (Err kind) = refl
 
 does_open : (c : Program) (t : Machine) (i : Option Instruction) → is_ending (asked (does c t i)) ≡ false
 does_open c t (Some CheckHalt) = refl
 does_open c t (Some (EnterFunction function site)) =
-    enters_open t function site (t.place + 1) (way_in c t function)
+    enters_open t function site (t.pc + 1) (way_in c t function)
 does_open c t (Some (ReachFunction function)) = refl
 does_open c t (Some (SetValue number)) = refl
 does_open c t (Some LeaveFunction) = refl
@@ -104,7 +104,7 @@ turn_falls u frames c t (Starting function) word events e h = early_falls _ (Loa
 turn_falls u frames c t (Entering function) word events e h =
     early_falls _ (asked (moves c t (Entering function))) events (enters_open t function 0 0 (way_in c t function)) h
 turn_falls u frames c t RunningMode word events e h =
-    early_falls _ (asked (moves c t RunningMode)) events (does_open c t (slice_get c.instructions t.place)) h
+    early_falls _ (asked (moves c t RunningMode)) events (does_open c t (slice_get c.instructions t.pc)) h
 turn_falls u frames c t (Failing kind) word events e h =
     late_falls _ (Stopping (Trapped kind)) events 2 (after_late c t word (Failing kind) (Stopping (Trapped kind)) e refl refl) (omega arith)
 turn_falls u frames c t Giving word events e h =

@@ -1,6 +1,6 @@
 -- The functions that a thread is in, and how many of them are `nonblocking`.
 use Rattle.std.specs.Prelude.{◌≡◌, ℕ, ◌+◌, List, [], ◌∷◌, if◌then◌else◌}
-use Rattle.core_unit.specs.Units.{UnitParts}
+use Rattle.built_unit.specs.Units.{UnitParts}
 use Rattle.ctx_set.specs.declared.steps.StackStep.{StackStep}
 use Rattle.src_model.specs.Context.{is_nonblocking}
 

@@ -1,7 +1,7 @@
 -- A thread under way: what its trace is so far, and what the runner holds against it. Traces and frames stand with the
 -- latest first.
 use Rattle.std.specs.Prelude.{◌≡◌, ℕ, ◌+◌, ◌-◌, ◌≤◌, Bool, true, false, ◌||◌, List, [], ◌∷◌, length, reverse}
-use Rattle.core_unit.specs.Units.{UnitParts}
+use Rattle.built_unit.specs.Units.{UnitParts}
 use Rattle.mcode.specs.declared.events.Ask.{Ask}
 use Rattle.mcode.specs.declared.thread.Mode.{Mode}
 use Rattle.mcode.specs.declared.thread.Mode.TheVariants.{Starting, Entering, Running as RunningMode, Failing, Giving, Telling, Stopping, Done}

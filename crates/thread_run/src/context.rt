@@ -5,7 +5,7 @@ ghost use Rattle.mcode.specs.Bounds.{HasRoom};
 ghost use Rattle.src_model.specs.Context.{framed, is_nonblocking, is_blocking, is_report};
 ghost use Rattle.thread_run.specs.Functions.{IsCounted};
 
-use core_unit::Unit;
+use built_unit::Unit;
 use ctx_set::{StackStep, StepList};
 use eff_types::Level;
 use mcode::Ask;

@@ -13,7 +13,7 @@ ghost use Rattle.thread_run.specs.UnderWay.{IsUnderWay, MakesEvent};
 
 use crate::context::Context;
 use crate::memory::Memory;
-use core_unit::Unit;
+use built_unit::Unit;
 use ctx_set::StepList;
 use mcode::words::HALT;
 use mcode::{Ask, Code, Finish, Thread};

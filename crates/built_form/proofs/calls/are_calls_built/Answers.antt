@@ -2,7 +2,7 @@
 use Rattle.std.proofs.Common.{◌≡◌, List, take, refl, subst, ◌∙◌, All}
 use Rattle.std.proofs.lemmas.List.{take_all}
 use Rattle.std.proofs.lemmas.List.Elements.{All-more}
-use Rattle.core_unit.specs.declared.units.SiteInfo.{SiteInfo}
+use Rattle.built_unit.specs.declared.units.SiteInfo.{SiteInfo}
 use Rattle.built_form.specs.Built.{IsCallBuilt}
 use Rattle.built_form.proofs.calls.are_calls_built.Goals as goal
 

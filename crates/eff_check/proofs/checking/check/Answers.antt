@@ -2,7 +2,7 @@
 use Rattle.std.proofs.Common.{◌≡◌, List, map, take, ◌∙◌, subst}
 use Rattle.std.proofs.lemmas.List.{take_all}
 use Rattle.std.specs.List.Sorted.{IsStrictlyIncreasing}
-use Rattle.core_unit.specs.declared.units.SiteInfo.{SiteInfo}
+use Rattle.built_unit.specs.declared.units.SiteInfo.{SiteInfo}
 use Rattle.eff_check.specs.Violations.{AreWarnings}
 use Rattle.eff_check.proofs.WarningLaws.{AreWarnings-warned, AreWarnings-quiet}
 use Rattle.eff_check.proofs.checking.check.Goals as goal
