@@ -1,1 +1,12 @@
+pub mod Layout
+pub mod Levels
+pub mod Library
+pub mod Nodes
+pub mod Places
+pub mod Shapes
+pub mod Stores
+pub mod Structures
+pub mod Typed
+pub mod Typing
 pub mod Units
+pub mod Words

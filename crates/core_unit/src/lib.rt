@@ -1,8 +1,31 @@
-//! The typed unit: functions and call sites of one source file.
+//! The typed unit: its trees, its tables, and what is always true of it.
 #![tactic(auto)]
 
-pub mod names;
-pub mod units;
+mod body;
+mod counts;
+mod expressions;
+mod memory;
+mod names;
+mod operators;
+mod rows;
+mod signatures;
+mod tables;
+mod units;
+mod words;
 
-pub use names::{Name, NumberList};
-pub use units::{Body, FunctionInfo, FunctionList, SiteInfo, SiteList, Unit};
+pub use body::{Body, Braces, Initializer, LocalVariable, LoopKind, Stmt};
+pub use counts::nodes;
+pub use expressions::{Expr, Place, Storage};
+pub use names::Name;
+pub use operators::{
+    ArithmeticOperator, BinaryOperator, Cause, Comparands, ComparisonOperator, LogicalOperator,
+    PointerSide, Sign, StepValue, UnaryOperator, Update,
+};
+pub use rows::{LibRow, library};
+pub use signatures::row_type;
+pub use tables::{
+    FIRST_ROW, FunctionInfo, MemberInfo, MemberList, NumberList, Object, ObjectList, SiteInfo,
+    StructInfo, UnitParts, VariableInfo, WordList,
+};
+pub use units::{Unit, Which};
+pub use words::{Word, pack, unpack};

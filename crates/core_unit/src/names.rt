@@ -1,6 +1,6 @@
-//! Small lists that values of other crates hold, seen by contracts as lists.
+//! Names, as contracts see them: the bytes of a text.
 
-ghost use Rattle.std.specs.Prelude.{◌≡◌, ◌∷◌, [], ◌++◌, OnOk, OnErr, IfOk};
+ghost use Rattle.std.specs.Prelude.{◌≡◌, IfOk};
 
 use std::alloc::{AllocError, Global};
 use std::marker::Model;
@@ -33,46 +33,5 @@ impl Name {
         ensures { result.now ≡ self.now }
     {
         self.text.as_str()
-    }
-}
-
-/// A list of numbers.
-#[derive(Drop)]
-pub struct NumberList {
-    items: Vec<u32>,
-}
-
-impl Model for NumberList {
-    ghost use Rattle.std.specs.Prelude.{List, ℕ};
-
-    ghost Value = { List ℕ };
-
-    ghost view = { λ l. l.items.items };
-}
-
-impl NumberList {
-    /// The list without numbers; it takes no memory.
-    pub fn new(alloc: Global) -> NumberList
-        ensures { result ≡ [] }
-    {
-        NumberList {
-            items: Vec::new(alloc),
-        }
-    }
-
-    /// Adds a number at the end; where memory is refused, the list stays as it was.
-    pub fn push(&mut self, number: u32) -> Result<(), AllocError>
-        ensures ok { OnOk result (self.new ≡ self.old ++ number ∷ []) }
-        ensures err { OnErr result (self.new ≡ self.old) }
-    {
-        self.items.push(number)?;
-        Ok(())
-    }
-
-    /// The numbers in order.
-    pub fn as_slice(&self) -> &[u32]
-        ensures { result.now ≡ self.now }
-    {
-        self.items.as_slice()
     }
 }

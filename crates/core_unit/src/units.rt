@@ -1,155 +1,64 @@
-//! The unit: its functions in order of first declaration, and its call sites in source order.
+//! The typed unit.
 
-ghost use Rattle.std.specs.Prelude.{◌≡◌, ◌∷◌, [], ◌++◌, ◌<◌, ◌≤◌, ◌+◌, ◌-◌, length, OnOk, OnErr, IfSome, slice_get};
+ghost use Rattle.std.specs.Prelude.{◌≡◌, ◌<◌, ◌≤◌, ◌-◌, length, slice_get, Some, IfOk, IfSome};
+ghost use Rattle.core_unit.specs.Units.{IsUnit};
+ghost use Rattle.core_unit.specs.Units as spec;
 
-use crate::names::{Name, NumberList};
-use eff_types::Effects;
+use crate::memory;
+use crate::rows::library;
+use crate::tables::{
+    FIRST_ROW, FunctionInfo, SiteInfo, StructInfo, UnitParts, VariableInfo, WordList,
+};
+use sqlite_items::Items;
 use std::alloc::{AllocError, Global};
 use std::marker::Model;
 
-/// The body of a defined function.
-#[derive(Drop)]
-pub struct Body {
-    /// the numbers of the call sites of its statements, in order; sites count from 1
-    pub calls: NumberList,
-    /// the number that its last statement returns; none where the function is void
-    pub returns: Option<u32>,
+/// A quantity of a unit that is limited.
+#[derive(Clone, Copy)]
+pub enum Which {
+    Functions,
+    Parameters,
+    CallSites,
+    StaticWords,
+    ThreadWords,
+    FrameWords,
 }
 
-/// A function of the unit.
-#[derive(Drop)]
-pub struct FunctionInfo {
-    pub name: Name,
-    /// the union over its declarations
-    pub effects: Effects,
-    /// the byte offset of its name in its first declaration
-    pub place: u32,
-    /// none where it is only declared
-    pub body: Option<Body>,
-}
-
-/// A call in the body of a function.
-#[derive(Clone, Copy, Debug, PartialEq, Eq)]
-pub struct SiteInfo {
-    /// the number of the function in whose body the call stands
-    pub function: u32,
-    /// the byte offset of the first token of the call
-    pub place: u32,
-    /// the number of the called function, where the call names it
-    pub direct: Option<u32>,
-}
-
-/// A list of functions.
-#[derive(Drop)]
-pub struct FunctionList {
-    items: Vec<FunctionInfo>,
-}
-
-impl Model for FunctionList {
-    ghost use Rattle.std.specs.Prelude.{List};
-    ghost use Rattle.core_unit.specs.declared.units.FunctionInfo.{FunctionInfo};
-
-    ghost Value = { List FunctionInfo };
-
-    ghost view = { λ l. l.items.items };
-}
-
-impl FunctionList {
-    /// The list without functions; it takes no memory.
-    pub fn new(alloc: Global) -> FunctionList
-        ensures { result ≡ [] }
-    {
-        FunctionList {
-            items: Vec::new(alloc),
-        }
-    }
-
-    /// Adds a function at the end; where memory is refused, the list stays as it was.
-    pub fn push(&mut self, function: FunctionInfo) -> Result<(), AllocError>
-        ensures ok { OnOk result (self.new ≡ self.old ++ function ∷ []) }
-        ensures err { OnErr result (self.new ≡ self.old) }
-    {
-        self.items.push(function)?;
-        Ok(())
-    }
-
-    /// The functions in order.
-    pub fn as_slice(&self) -> &[FunctionInfo]
-        ensures { result.now ≡ self.now }
-    {
-        self.items.as_slice()
-    }
-}
-
-/// A list of call sites.
-#[derive(Drop)]
-pub struct SiteList {
-    items: Vec<SiteInfo>,
-}
-
-impl Model for SiteList {
-    ghost use Rattle.std.specs.Prelude.{List};
-    ghost use Rattle.core_unit.specs.declared.units.SiteInfo.{SiteInfo};
-
-    ghost Value = { List SiteInfo };
-
-    ghost view = { λ l. l.items.items };
-}
-
-impl SiteList {
-    /// The list without call sites; it takes no memory.
-    pub fn new(alloc: Global) -> SiteList
-        ensures { result ≡ [] }
-    {
-        SiteList {
-            items: Vec::new(alloc),
-        }
-    }
-
-    /// Adds a call site at the end; where memory is refused, the list stays as it was.
-    pub fn push(&mut self, site: SiteInfo) -> Result<(), AllocError>
-        ensures ok { OnOk result (self.new ≡ self.old ++ site ∷ []) }
-        ensures err { OnErr result (self.new ≡ self.old) }
-    {
-        self.items.push(site)?;
-        Ok(())
-    }
-
-    /// The call sites in order.
-    pub fn as_slice(&self) -> &[SiteInfo]
-        ensures { result.now ≡ self.now }
-    {
-        self.items.as_slice()
-    }
-}
-
-/// A typed unit: at most 4,096 functions, whose calls stand in source order.
+/// A typed unit: its parts, of which what is always true of a unit holds.
 #[derive(Drop)]
 pub struct Unit {
-    functions: FunctionList,
-    sites: SiteList,
+    parts: UnitParts,
 }
 
 impl Model for Unit {
-    ghost use Rattle.core_unit.specs.Units.{UnitParts, IsUnit};
+    ghost use Rattle.core_unit.specs.Units.{IsUnit};
+    ghost use Rattle.core_unit.specs.declared.tables.UnitParts.{UnitParts};
+    ghost use Rattle.core_unit.specs.contracts.tables.UnitParts as tables;
 
     ghost Value = { UnitParts };
 
-    ghost view = { λ u. record { functions = u.functions; sites = u.sites } };
+    ghost coded = { tables.the_row.coded };
 
-    ghost invariant = { λ u. IsUnit u.functions u.sites };
+    ghost view = { λ u. u.parts };
+
+    ghost invariant = { λ u. IsUnit u.parts };
 }
 
 impl Unit {
-    ghost use Rattle.core_unit.specs.Units.{UnitParts, IsUnit};
-
-    /// The unit of these functions and call sites.
-    pub fn new(functions: FunctionList, sites: SiteList) -> Unit
-        requires { IsUnit functions sites }
-        ensures functions { result.functions ≡ functions }
-        ensures sites { result.sites ≡ sites }
+    /// The unit of these parts.
+    pub fn new(parts: UnitParts) -> Unit
+        requires { IsUnit parts }
+        ensures { result ≡ parts }
     {
-        Unit { functions, sites }
+        Unit { parts }
+    }
+
+    /// The parts, and what is always true of them.
+    pub fn parts(&self) -> &UnitParts
+        ensures parts { result.now ≡ self.now }
+        ensures lawful { IsUnit self.now }
+    {
+        &self.parts
     }
 
     /// How many functions the unit declares, at most 4,096.
@@ -157,7 +66,7 @@ impl Unit {
         ensures count { result ≡ length self.now.functions }
         ensures few { result ≤ 4096 }
     {
-        self.functions.as_slice().len() as u32
+        self.parts.functions.len() as u32
     }
 
     /// The function of this number, which counts from 0 in order of first declaration.
@@ -165,38 +74,91 @@ impl Unit {
         requires { id < length self.now.functions }
         ensures { slice_get self.now.functions id ≡ Some result.now }
     {
-        &self.functions.as_slice()[id as usize]
+        &self.parts.functions.as_slice()[id as usize]
     }
 
-    /// How many call sites the unit has.
-    pub fn sites(&self) -> u32
-        ensures { result ≡ length self.now.sites }
+    /// Whether a declaration of the function says `static`.
+    pub fn internal(&self, function: u32) -> bool
+        requires { function < length self.now.functions }
+        ensures { IfSome (slice_get self.now.functions function) (λ f. result ≡ f.internal) }
     {
-        self.sites.as_slice().len() as u32
+        self.function(function).internal
     }
 
-    /// The call site of this number, which counts from 1 in source order.
+    /// How many call sites the unit has, fewer than 2^20.
+    pub fn sites(&self) -> u32
+        ensures count { result ≡ length self.now.sites }
+        ensures few { result < 1048576 }
+    {
+        self.parts.sites.len() as u32
+    }
+
+    /// The call site of this number, which counts from 1, definition after definition: within one in order of place, the
+    /// inner call first at one place.
     pub fn site(&self, id: u32) -> &SiteInfo
         requires from_one { 1 ≤ id }
         requires known { id ≤ length self.now.sites }
         ensures { slice_get self.now.sites (id - 1) ≡ Some result.now }
     {
-        &self.sites.as_slice()[id as usize - 1]
+        &self.parts.sites.as_slice()[id as usize - 1]
     }
 
-    /// The name of a called or entered target: a function of the unit by its number.
+    /// How many variables of file scope the unit declares.
+    pub fn variables(&self) -> u32
+        ensures { result ≡ length self.now.variables }
+    {
+        self.parts.variables.len() as u32
+    }
+
+    /// The variable of this number, which counts from 0 in order of first declaration.
+    pub fn variable(&self, id: u32) -> &VariableInfo
+        requires { id < length self.now.variables }
+        ensures { slice_get self.now.variables id ≡ Some result.now }
+    {
+        &self.parts.variables.as_slice()[id as usize]
+    }
+
+    /// How many structures the unit names.
+    pub fn structures(&self) -> u32
+        ensures { result ≡ length self.now.structures }
+    {
+        self.parts.structures.len() as u32
+    }
+
+    /// The structure of this number, which counts from 0 in order of first appearance.
+    pub fn structure(&self, id: u32) -> &StructInfo
+        requires { id < length self.now.structures }
+        ensures { slice_get self.now.structures id ≡ Some result.now }
+    {
+        &self.parts.structures.as_slice()[id as usize]
+    }
+
+    /// The name of a target: of a function of the unit, or of a library row.
     pub fn target_name(&self, target: u32) -> &str
-        requires { target < length self.now.functions }
-        ensures { IfSome (slice_get self.now.functions target) (λ f. result.now ≡ f.name) }
+        requires { spec.IsTarget self.now target }
+        ensures { spec.target_name self.now target ≡ Some result.now }
     {
-        self.function(target).name.as_str()
+        if target < FIRST_ROW {
+            self.function(target).name.as_str()
+        } else {
+            library()[(target - FIRST_ROW) as usize].name
+        }
     }
 
-    /// The call sites in source order, and what is true of the parts of every unit.
-    pub fn all_sites(&self) -> &[SiteInfo]
-        ensures sites { result.now ≡ self.now.sites }
-        ensures lawful { IsUnit self.now.functions self.now.sites }
+    /// How many words the objects of static storage have, from address 1 on.
+    pub fn static_words(&self) -> u32
+        ensures count { result ≡ length self.now.static_words }
+        ensures few { result ≤ 524288 }
     {
-        self.sites.as_slice()
+        self.parts.static_words.len() as u32
+    }
+
+    /// What the words of memory hold at first, all 1,048,768 of them. The one error is that no memory is left.
+    pub fn opening(&self, alloc: Global) -> Result<WordList, AllocError>
+        ensures { IfOk result (λ words. words ≡ spec.opening self.now) }
+    {
+        let statics = self.parts.static_words.as_slice();
+        let words = memory::opening(alloc, statics, self.parts.thread_words.as_slice())?;
+        Ok(Items::from_vec(words))
     }
 }
