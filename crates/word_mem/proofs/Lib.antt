@@ -1,0 +1,12 @@
+pub mod Lists
+pub mod Replays
+pub mod Parts
+pub mod AccessEvents
+pub mod OnePass
+pub mod Alone
+pub mod SpareLists
+pub mod Seats
+pub mod Wholes
+pub mod Keeping
+pub mod Kept
+pub mod LockRule

@@ -1,0 +1,10 @@
+pub mod Replay
+pub mod Merge
+pub mod Held
+pub mod Lives
+pub mod Spares
+pub mod Accesses
+pub mod FirstPass
+pub mod Story
+pub mod Moves
+pub mod Locked
