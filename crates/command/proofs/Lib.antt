@@ -1,0 +1,4 @@
+pub mod Decimals
+pub mod Separated
+pub mod Collected
+pub mod Numbered

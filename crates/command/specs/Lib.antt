@@ -1,0 +1,9 @@
+pub mod Forms
+pub mod Lists
+pub mod Lines
+pub mod Parts
+pub mod Readings
+pub mod Settings
+pub mod Commands
+pub mod OptionText
+pub mod Generated
