@@ -3,11 +3,13 @@
 
 ghost use Rattle.std.specs.Prelude.{◌≡◌, ◌<◌, ◌≤◌, length, IfOk};
 
+use built_code::words::HALT;
+use built_code::{
+    Ask, Code, EntryList, Finish, Instruction, InstructionList, Thread, TrapKind, Turned,
+};
+use built_codegen::{CompileRefusal, compile};
 use built_unit::{Body, FunctionInfo, FunctionList, Name, NumberList, SiteInfo, SiteList, Unit};
-use c_codegen::{CompileRefusal, compile};
 use eff_types::{Effects, Level};
-use mcode::words::HALT;
-use mcode::{Ask, Code, EntryList, Finish, Instruction, InstructionList, Thread, TrapKind, Turned};
 use std::alloc::{AllocError, Global};
 use std::test::Fail;
 

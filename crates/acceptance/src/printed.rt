@@ -1,9 +1,9 @@
 //! The printed endings of threads, those too that no file of the built form comes to.
 
-use mcode::TrapKind;
-use reports::write_ending;
+use built_code::TrapKind;
+use built_model::End;
+use built_reports::write_ending;
 use rt_base::{CallList, MemSink};
-use src_model::End;
 use std::test::Fail;
 
 /// How a thread ended, and what its line says.

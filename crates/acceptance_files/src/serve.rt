@@ -1,9 +1,9 @@
 //! The top call: each status of each command, with its text, and what is left. Memory is ample, so want of it is never the
 //! answer.
 
+use built_model::End;
 use rt_base::{Bytes, CallList, FileList, MemFile, MemFiles, MemSink};
 use rtsan_core::{Gate, Outcome, Status, serve};
-use src_model::End;
 use std::alloc::{AllocError, Global};
 use std::sync::Wait;
 use std::test::Fail;

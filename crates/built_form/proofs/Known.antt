@@ -11,6 +11,7 @@ use Rattle.built_form.specs.declared.item.Item.{Item}
 use Rattle.built_form.specs.Form.{Spells, lexemes_of, spelled_items}
 use Rattle.built_form.specs.Built.{IsItemWithin, calls_of, number_of, scope_of, site_of, sites_of, functions_of}
 use Rattle.built_form.proofs.Placed.{AreFound, found, names_in-items, names_of, all_from, all_within, sites_few, sites_increase, length-app}
+use Rattle.c_text.specs.declared.limits.TheConstants.{SOURCE_LIMIT}
 
 number_below : (scope : List (List ℕ)) (text : List ℕ) (bound : ℕ) → length scope ≤ bound → IfSome (number_of scope text) (λ i. i < bound)
 unfolding number_of
@@ -47,16 +48,16 @@ length-functions_of source next (item ∷ items) = ap suc (length-functions_of s
 -- what the reader of the items hands on
 pub record Suits (source : List ℕ) (items : List Item) : Type 0 where
   pub within : All (IsItemWithin source) items
-  pub room : length (sites_of source [] items) ≤ 1048576
+  pub room : length (sites_of source [] items) ≤ SOURCE_LIMIT
   pub unit : length items ≤ 4096 → IsUnit (functions_of source 1 items) (sites_of source [] items)
 
-pub suits : (source : List ℕ) (tokens : List Token) (items : List Item) → All (IsWithin source) tokens → length tokens ≤ 1048576
+pub suits : (source : List ℕ) (tokens : List Token) (items : List Item) → All (IsWithin source) tokens → length tokens ≤ SOURCE_LIMIT
     → IsInOrder tokens → Spells (spelled_items items) (lexemes_of source tokens) [] → Suits source items
 suits source tokens items within few order spelled =
     let f : AreFound source 0 (length tokens) (names_of items) =
     subst (λ ns. AreFound source 0 (length tokens) ns) (names_in-items items)
     (found source (spelled_items items) tokens [] 0 spelled order within) in
-    let room : length (sites_of source [] items) ≤ 1048576 = omega (arith, sites_few source [] items, f.few) in
+    let room : length (sites_of source [] items) ≤ SOURCE_LIMIT = omega (arith, sites_few source [] items, f.few) in
     record {
       within = all_within source items f.within;
       room = room;

@@ -4,6 +4,7 @@ ghost use Rattle.std.specs.Prelude.{◌≡◌, ◌≤◌, length, All, IfOk};
 ghost use Rattle.c_text.specs.Spelling.{IsWithin, IsInOrder};
 ghost use Rattle.built_unit.specs.Units.{UnitParts};
 ghost use Rattle.built_form.specs.Built.{IsOfForm, AreCallsWithin};
+ghost use Rattle.c_text.specs.declared.limits.TheConstants.{SOURCE_LIMIT};
 
 use crate::refusal::FormRefusal;
 use crate::{syntax, unit};
@@ -15,7 +16,7 @@ use std::alloc::Global;
 /// `NotBuilt` says that the file is not of the form that is read so far; `NoMemory`, that memory ran out.
 pub fn read_form(alloc: Global, source: &[u8], tokens: &[Token]) -> Result<Unit, FormRefusal>
     requires within { All (IsWithin source.now) tokens.now }
-    requires few { length tokens.now ≤ 1048576 }
+    requires few { length tokens.now ≤ SOURCE_LIMIT }
     requires ordered { IsInOrder tokens.now }
     ensures read { IfOk result (IsOfForm source.now tokens.now) }
     ensures only { IfOk result (λ u. (v : UnitParts) → IsOfForm source.now tokens.now v → v ≡ u) }

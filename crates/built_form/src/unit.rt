@@ -5,6 +5,7 @@ ghost use Rattle.std.specs.Str.{IsUtf8};
 ghost use Rattle.c_text.specs.Spelling.{IsWithin, text_of};
 ghost use Rattle.built_unit.specs.Units.{IsUnit};
 ghost use Rattle.built_form.specs.Built.{AreDeclared, IsNameOf, IsItemBuilt, IsBuilt, IsItemWithin, scope_of, calls_of, effects_of, body_of, function_of, site_of, item_sites, functions_of, sites_of, unit_of, numbered};
+ghost use Rattle.c_text.specs.declared.limits.TheConstants.{SOURCE_LIMIT};
 
 use crate::calls::are_calls_built;
 use crate::cursor::text_of;
@@ -63,7 +64,7 @@ pub fn call_sites(
 ) -> Result<NumberList, FormRefusal>
     requires within { All (IsWithin source.now) calls.now }
     requires few { length scope.now ≤ 4096 }
-    requires room { length sites.old + length calls.now ≤ 1048576 }
+    requires room { length sites.old + length calls.now ≤ SOURCE_LIMIT }
     ensures sites { OnOk result (sites.new ≡ sites.old ++ map (site_of source.now scope.now function) calls.now) }
     ensures numbers { IfOk result (λ numbers. numbers ≡ numbered (length sites.old + 1) calls.now) }
     ensures declared { OnOk result (AreDeclared source.now scope.now calls.now) }
@@ -96,7 +97,7 @@ pub fn body(
 ) -> Result<Option<Body>, FormRefusal>
     requires within { All (IsWithin source.now) (calls_of kind.now) }
     requires few { length scope.now ≤ 4096 }
-    requires room { length sites.old + length (calls_of kind.now) ≤ 1048576 }
+    requires room { length sites.old + length (calls_of kind.now) ≤ SOURCE_LIMIT }
     ensures sites { OnOk result (sites.new ≡ sites.old ++ map (site_of source.now scope.now function) (calls_of kind.now)) }
     ensures body { IfOk result (λ body. body ≡ body_of (length sites.old + 1) kind.now) }
     ensures declared { OnOk result (AreDeclared source.now scope.now (calls_of kind.now)) }
@@ -139,7 +140,7 @@ impl<'a> Builder<'a> {
     pub fn add(&mut self, alloc: Global, source: &'a [u8], item: &Item) -> Result<(), FormRefusal>
         requires within { IsItemWithin source.now item.now }
         requires few { length self.old.scope < 4096 }
-        requires room { length self.old.sites + length (calls_of item.now.kind) ≤ 1048576 }
+        requires room { length self.old.sites + length (calls_of item.now.kind) ≤ SOURCE_LIMIT }
         ensures built { OnOk result (IsItemBuilt source.now self.old.scope item.now) }
         ensures scope { OnOk result (self.new.scope ≡ scope_of source.now self.old.scope item.now) }
         ensures functions { OnOk result (self.new.functions ≡ self.old.functions ++ function_of source.now (length self.old.sites + 1) item.now ∷ []) }
@@ -175,7 +176,7 @@ impl<'a> Builder<'a> {
 /// The unit of the items of a file.
 pub fn unit(alloc: Global, source: &[u8], items: &[Item]) -> Result<Unit, FormRefusal>
     requires within { All (IsItemWithin source.now) items.now }
-    requires room { length (sites_of source.now [] items.now) ≤ 1048576 }
+    requires room { length (sites_of source.now [] items.now) ≤ SOURCE_LIMIT }
     requires unit { length items.now ≤ 4096 → IsUnit (functions_of source.now 1 items.now) (sites_of source.now [] items.now) }
     ensures built { OnOk result (IsBuilt source.now items.now) }
     ensures means { IfOk result (λ unit. unit ≡ unit_of source.now items.now) }

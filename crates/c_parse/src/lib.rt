@@ -5,6 +5,7 @@ ghost use Rattle.std.specs.Prelude.{◌≡◌, ◌≤◌, ℕ, All, length, IfOk
 ghost use Rattle.c_text.specs.Spelling.{IsWithin};
 ghost use Rattle.c_tree.specs.declared.statements.Tree.{Tree};
 ghost use Rattle.c_parse.specs.Parsed.{IsParsed, IsRefusedAt, IfBad};
+ghost use Rattle.c_text.specs.declared.limits.TheConstants.{SOURCE_LIMIT};
 
 mod file;
 mod number;
@@ -33,7 +34,7 @@ pub enum ParseRefusal {
 /// the grammar reads all tokens with a depth of at most 200, and `Bad` exactly where they are refused.
 #[tactic(auto, using(crate::proofs::Laws::parsed, crate::proofs::Laws::one_tree, crate::proofs::Laws::not_both, crate::proofs::Laws::one_refusal, crate::proofs::Laws::refused_from))]
 pub fn parse(alloc: Global, source: &[u8], tokens: &[Token]) -> Result<Tree, ParseRefusal>
-    requires short { length source.now ≤ 1048576 }
+    requires short { length source.now ≤ SOURCE_LIMIT }
     requires few { length tokens.now ≤ length source.now }
     requires within { All (IsWithin source.now) tokens.now }
     ensures parsed { IfOk result (λ tree. IsParsed source.now tokens.now tree) }

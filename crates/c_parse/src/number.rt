@@ -5,6 +5,7 @@ ghost use Rattle.c_text.specs.Spelling.{IsWithin};
 ghost use Rattle.c_grammar.specs.Lexemes.{Lexeme, lexemes_of};
 ghost use Rattle.c_grammar.specs.Refusals.{is_reserved_name};
 ghost use Rattle.c_parse.specs.Parsed.{IsRefusedAt, IsRefusedFrom, IsNumberOf, NumberByDepth, IfBad, SaysIfNameGoesOn, new_token};
+ghost use Rattle.c_text.specs.declared.limits.TheConstants.{SOURCE_LIMIT};
 
 use crate::ParseRefusal;
 use crate::file::{Fault, read_file};
@@ -23,7 +24,7 @@ fn is_reserved_name(seen: &Seen<'_>) -> bool
 
 /// The source with a name behind it that stands nowhere in it.
 fn with_new_name(alloc: Global, source: &[u8]) -> Result<Items<u8>, AllocError>
-    requires { length source.now ≤ 1048576 }
+    requires { length source.now ≤ SOURCE_LIMIT }
     ensures { IfOk result (λ longer. longer ≡ source.now ++ replicate (length source.now + 26) 97) }
 {
     let mut longer = Items::from_slice(alloc, source)?;
@@ -39,7 +40,7 @@ fn with_name_token(
     length: usize,
     before: &[Token],
 ) -> Result<Items<Token>, AllocError>
-    requires { length ≤ 1048576 }
+    requires { length ≤ SOURCE_LIMIT }
     ensures { IfOk result (λ tokens. tokens ≡ before.now ++ new_token length ∷ []) }
 {
     let mut tokens = Items::from_slice(alloc, before)?;
@@ -54,7 +55,7 @@ fn with_name_token(
 /// Whether the tokens have a reading that goes on with an ordinary name.
 #[tactic(auto, using(crate::proofs::Names::all_within, crate::proofs::Names::goes_on, crate::proofs::Names::stops))]
 fn goes_on_with_name(alloc: Global, source: &[u8], before: &[Token]) -> Result<bool, AllocError>
-    requires short { length source.now ≤ 1048576 }
+    requires short { length source.now ≤ SOURCE_LIMIT }
     requires within { All (IsWithin source.now) before.now }
     ensures { IfOk result (λ goes. SaysIfNameGoesOn source.now before.now goes) }
 {
@@ -83,7 +84,7 @@ fn number_at(
     seen: &Seen<'_>,
     deep: bool,
 ) -> Result<u8, AllocError>
-    requires short { length source.now ≤ 1048576 }
+    requires short { length source.now ≤ SOURCE_LIMIT }
     requires within { All (IsWithin source.now) before.now }
     ensures { IfOk result (λ number. IsNumberOf source.now (lexemes_of source.now before.now) deep seen.now number) }
 {
@@ -108,7 +109,7 @@ pub fn refusal_at(
     deep: bool,
     left: usize,
 ) -> ParseRefusal
-    requires short { length source.now ≤ 1048576 }
+    requires short { length source.now ≤ SOURCE_LIMIT }
     requires few { length tokens.now ≤ length source.now }
     requires within { All (IsWithin source.now) tokens.now }
     requires refused { IsRefusedFrom source.now tokens.now deep left }

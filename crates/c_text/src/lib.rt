@@ -11,6 +11,7 @@ mod bytes;
 mod escape;
 mod fault;
 mod form;
+mod limits;
 mod number;
 mod place;
 mod scan;
@@ -19,6 +20,7 @@ mod table;
 mod value;
 mod words;
 
+pub use limits::SOURCE_LIMIT;
 pub use number::{Number, number_of};
 pub use place::{LineCursor, line_column};
 pub use spelling::tokens;

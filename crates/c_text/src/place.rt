@@ -2,6 +2,7 @@
 
 ghost use Rattle.std.specs.Prelude.{◌≡◌, ℕ, ◌+◌, ◌<◌, ◌≤◌, List, length};
 ghost use Rattle.c_text.specs.Place.{line_column, IsAt};
+ghost use Rattle.c_text.specs.declared.limits.TheConstants.{SOURCE_LIMIT};
 
 /// A place of a source with its line and column, for a caller that goes through rising places.
 #[derive(Clone, Copy)]
@@ -29,7 +30,7 @@ impl LineCursor {
 
     /// The cursor at a place that is not before its own. It reads the bytes between the two alone.
     pub fn advance(self, source: &[u8], place: u32) -> LineCursor
-        requires short { length source.now ≤ 1048576 }
+        requires short { length source.now ≤ SOURCE_LIMIT }
         requires at { IsAt source.now self }
         requires onward { self.place ≤ place }
         requires within { place ≤ length source.now }
@@ -56,7 +57,7 @@ impl LineCursor {
 
 /// The line and the column of a place, a byte offset from 0. Both count from 1: a line feed ends its line, and each byte is one column.
 pub fn line_column(source: &[u8], place: u32) -> (u32, u32)
-    requires short { length source.now ≤ 1048576 }
+    requires short { length source.now ≤ SOURCE_LIMIT }
     requires within { place ≤ length source.now }
     ensures line { result.0 ≡ (line_column source.now place).line }
     ensures column { result.1 ≡ (line_column source.now place).column }

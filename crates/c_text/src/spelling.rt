@@ -5,6 +5,7 @@ ghost use Rattle.std.specs.List.{list_any};
 ghost use Rattle.c_text.specs.declared.Token.{Token};
 ghost use Rattle.c_text.specs.Spelling.{alone_after, token_in, IsSpelled, IsFirstFault, IsWithin, IsInOrder};
 ghost use Rattle.c_text.specs.Refusal.{IfBad};
+ghost use Rattle.c_text.specs.declared.limits.TheConstants.{SOURCE_LIMIT};
 
 use crate::fault::fault_in;
 use crate::form::Form;
@@ -53,7 +54,7 @@ fn add(found: &mut TokenList, form: Form, start: usize, length: usize) -> Result
 /// The tokens of a source of at most 1,048,576 bytes (C17 6.4, cut down to this project's subset). It answers
 /// `Bad` with the first fault exactly where the source has one.
 pub fn tokens(alloc: Global, source: &[u8]) -> Result<TokenList, TextRefusal>
-    requires { length source.now ≤ 1048576 }
+    requires { length source.now ≤ SOURCE_LIMIT }
     ensures spelled { IfOk result (λ ts. IsSpelled source.now ts) }
     ensures only_spelled { IfOk result (λ ts. (us : List Token) → IsSpelled source.now us → us ≡ ts) }
     ensures no_fault { IfOk result (λ ts. (number place : ℕ) → IsFirstFault source.now number place → ⊥) }

@@ -16,6 +16,7 @@ use Rattle.eff_check.specs.declared.Warning.{Warning}
 use Rattle.eff_check.specs.Violations.{AreWarnings, IsWarned, IsViolation}
 use Rattle.eff_types.specs.declared.levels.Level.{Level}
 use Rattle.eff_text.specs.WarningText.{line_at, warning_line, warnings_text, IsNamed, ArePrintable}
+use Rattle.c_text.specs.declared.limits.TheConstants.{SOURCE_LIMIT}
 
 -- the line from a cursor at the place of the warning
 line_of_cursor : (file source : List ℕ) (unit : UnitParts) (w : Warning) (cursor : LineCursor) → IsAt source cursor → cursor.place ≡ w.place → line_at file (record { line = cursor.line; column = cursor.column }) unit w.level w.kind ≡ warning_line file source unit w
@@ -59,7 +60,7 @@ named_kind : (unit : UnitParts) (level : Level) (site : SiteInfo) (kind : Violat
 named_kind unit level site (Calls callee) h = in_range unit.functions callee _ h.1
 
 -- the warnings of a unit can be printed over a source in which its calls stand
-pub ArePrintable-from_warnings : (source : List ℕ) (unit : UnitParts) (ws : List Warning) → AreWarnings unit ws → length source ≤ 1048576 → All (λ site. site.place ≤ length source) unit.sites → ArePrintable source unit ws
+pub ArePrintable-from_warnings : (source : List ℕ) (unit : UnitParts) (ws : List Warning) → AreWarnings unit ws → length source ≤ SOURCE_LIMIT → All (λ site. site.place ≤ length source) unit.sites → ArePrintable source unit ws
 ArePrintable-from_warnings source unit ws h short stand = record {
   short = short;
   within = λ k d l.

@@ -11,6 +11,7 @@ use Rattle.c_text.specs.Place.{LineColumn, line_column}
 use Rattle.eff_check.specs.declared.ViolationKind.{ViolationKind}
 use Rattle.eff_check.specs.declared.ViolationKind.TheVariants.{Calls}
 use Rattle.eff_check.specs.declared.Warning.{Warning}
+use Rattle.c_text.specs.declared.limits.TheConstants.{SOURCE_LIMIT}
 
 -- the attribute that marks a function with the level; no attribute does so for Plain, and no warning has that level
 abbrev pub effect_name : Level → List ℕ
@@ -50,7 +51,7 @@ IsNamed unit (Calls callee) = callee < length unit.functions
 -- The warnings can be printed over the source: it has at most 1,048,576 bytes, the places of the warnings stand in it, in
 -- order, and what the warnings name is there.
 pub record ArePrintable (source : List ℕ) (unit : UnitParts) (warnings : List Warning) : Type 0 where
-  pub short : length source ≤ 1048576
+  pub short : length source ≤ SOURCE_LIMIT
   pub within : All (λ warning. warning.place ≤ length source) warnings
   pub ordered : IsStrictlyIncreasing (map (λ warning. warning.place) warnings)
   pub named : All (λ warning. IsNamed unit warning.kind) warnings

@@ -4,15 +4,15 @@ use Rattle.std.specs.List.{list_any}
 use Rattle.std.specs.Prelude.{if◌then◌else◌}
 use Rattle.built_unit.specs.Units.{UnitParts}
 use Rattle.eff_check.specs.declared.Warning.{Warning}
-use Rattle.mcode.specs.declared.events.Ask.{Ask}
-use Rattle.mcode.specs.declared.events.Ask.TheVariants.{Over}
-use Rattle.mcode.specs.declared.events.Finish.{Finish}
-use Rattle.mcode.specs.declared.events.Finish.TheVariants.{Returned, Exited, Trapped as FinishTrapped, Halted}
-use Rattle.src_model.specs.declared.runs.Made.{Made}
-use Rattle.src_model.specs.declared.runs.End.{End}
-use Rattle.src_model.specs.declared.runs.End.TheVariants.{Stopped as EndStopped, Full}
-use Rattle.src_model.specs.Run.{IsRun, ending, is_ending, event_limit, end_of, state_after}
-use Rattle.src_model.specs.Source.{next}
+use Rattle.built_code.specs.declared.events.Ask.{Ask}
+use Rattle.built_code.specs.declared.events.Ask.TheVariants.{Over}
+use Rattle.built_code.specs.declared.events.Finish.{Finish}
+use Rattle.built_code.specs.declared.events.Finish.TheVariants.{Returned, Exited, Trapped as FinishTrapped, Halted}
+use Rattle.built_model.specs.declared.runs.Made.{Made}
+use Rattle.built_model.specs.declared.runs.End.{End}
+use Rattle.built_model.specs.declared.runs.End.TheVariants.{Stopped as EndStopped, Full}
+use Rattle.built_model.specs.Run.{IsRun, ending, is_ending, event_limit, end_of, state_after}
+use Rattle.built_model.specs.Source.{next}
 use Rattle.rt_base.specs.Outside.{FilesState, SinkState}
 use Rattle.rtsan_core.specs.declared.finished.Finished.{Finished}
 use Rattle.rtsan_core.specs.declared.status.Outcome.{Outcome}

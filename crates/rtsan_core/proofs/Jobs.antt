@@ -1,16 +1,16 @@
 -- The rungs from a unit to what a job finds of it: each is settled by what was found.
 use Rattle.std.proofs.Common.{◌≡◌, ℕ, ◌<◌, ◌≤◌, ◌⊎◌, ◌↔◌, inl, inr, List, length, Option, Some, None, Result, Err, refl, ap, sym, subst, ◌∙◌, arith}
-use Rattle.c_codegen.specs.declared.compiling.CompileRefusal.{CompileRefusal}
-use Rattle.c_codegen.specs.declared.compiling.CompileRefusal.TheVariants.{NoEntry, Undefined as UndefinedFunction, Long, NoMemory as NoMemoryToCompile}
-use Rattle.c_codegen.specs.Unit.{HasNoEntry, IsEntry, IsFirstMissing, unit_nodes, node_limit}
+use Rattle.built_codegen.specs.declared.compiling.CompileRefusal.{CompileRefusal}
+use Rattle.built_codegen.specs.declared.compiling.CompileRefusal.TheVariants.{NoEntry, Undefined as UndefinedFunction, Long, NoMemory as NoMemoryToCompile}
+use Rattle.built_codegen.specs.Unit.{HasNoEntry, IsEntry, IsFirstMissing, unit_nodes, node_limit}
 use Rattle.built_unit.specs.Units.{UnitParts}
 use Rattle.eff_check.specs.declared.Warning.{Warning}
 use Rattle.eff_check.specs.Violations.{AreWarnings}
 use Rattle.eff_check.proofs.WarningLaws.{AreWarnings-unique}
 use Rattle.eff_text.specs.WarningText.{function_name}
-use Rattle.mcode.specs.Machine.{Program}
+use Rattle.built_code.specs.Machine.{Program}
 use Rattle.rt_base.specs.Outside.{SinkState}
-use Rattle.src_model.proofs.OneRun.{one_trace, one_ending}
+use Rattle.built_model.proofs.OneRun.{one_trace, one_ending}
 use Rattle.rtsan_core.specs.declared.finished.Finished.{Finished}
 use Rattle.rtsan_core.specs.declared.status.Outcome.{Outcome}
 use Rattle.rtsan_core.specs.declared.status.Status.{Status}

@@ -6,7 +6,7 @@ use Rattle.built_unit.specs.declared.units.Body.{Body}
 use Rattle.built_unit.specs.declared.units.SiteInfo.{SiteInfo}
 use Rattle.built_unit.specs.declared.units.FunctionInfo.{FunctionInfo}
 use Rattle.built_unit.specs.Units.{UnitParts}
-use Rattle.c_codegen.specs.Unit.{IsDefinedAs, HasNoEntry, IsEntry, IsFirstMissing, unless_body, unless_defined, missing_callee, missing_in}
+use Rattle.built_codegen.specs.Unit.{IsDefinedAs, HasNoEntry, IsEntry, IsFirstMissing, unless_body, unless_defined, missing_callee, missing_in}
 
 -- a function isn't both defined with a name and not
 clash : (name : List ℕ) (info : Option FunctionInfo) → IsSomeAnd info (IsDefinedAs name) → IfSome info (λ f. IsDefinedAs name f → ⊥) → ⊥

@@ -3,7 +3,7 @@ use Rattle.std.proofs.Common.{List, ℕ, ◌++◌, Result}
 use Rattle.built_unit.specs.Units.{UnitParts}
 use Rattle.eff_check.specs.declared.Warning.{Warning}
 use Rattle.eff_text.specs.WarningText.{warnings_text}
-use Rattle.reports.specs.RunText.{reports_text}
+use Rattle.built_reports.specs.RunText.{reports_text}
 use Rattle.rt_base.specs.Outside.{SinkState, TakesAll, FailsWithin, IsWritten}
 use Rattle.rt_base.proofs.Pieces.{fails_longer, takes_then_fails, written_behind}
 use Rattle.rtsan_core.specs.declared.finished.Finished.{Finished}

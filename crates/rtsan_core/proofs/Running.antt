@@ -6,15 +6,15 @@ use Rattle.built_unit.specs.Units.{UnitParts}
 use Rattle.ctx_set.specs.declared.steps.StackStep.{StackStep}
 use Rattle.eff_check.specs.declared.Warning.{Warning}
 use Rattle.eff_text.specs.WarningText.{warnings_text}
-use Rattle.mcode.specs.Machine.{Program}
-use Rattle.reports.specs.RunText.{reports_text, thread_line}
-use Rattle.reports.specs.Totals.{counted}
-use Rattle.reports.specs.declared.stacks.StackCount.{StackCount}
-use Rattle.src_model.specs.declared.runs.End.{End}
-use Rattle.src_model.specs.Context.{report_stacks}
-use Rattle.src_model.specs.Follows.{Behaves}
-use Rattle.src_model.specs.Run.{IsRun, machine_after_trace}
-use Rattle.thread_run.specs.declared.running.Ran.{Ran}
+use Rattle.built_code.specs.Machine.{Program}
+use Rattle.built_reports.specs.RunText.{reports_text, thread_line}
+use Rattle.built_reports.specs.Totals.{counted}
+use Rattle.built_reports.specs.declared.stacks.StackCount.{StackCount}
+use Rattle.built_model.specs.declared.runs.End.{End}
+use Rattle.built_model.specs.Context.{report_stacks}
+use Rattle.built_model.specs.Follows.{Behaves}
+use Rattle.built_model.specs.Run.{IsRun, machine_after_trace}
+use Rattle.built_run.specs.declared.running.Ran.{Ran}
 use Rattle.rtsan_core.specs.declared.finished.Ended.{Ended}
 use Rattle.rtsan_core.specs.declared.finished.Finished.{Finished}
 use Rattle.rtsan_core.specs.declared.status.Status.{Status}

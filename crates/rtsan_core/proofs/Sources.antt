@@ -16,6 +16,7 @@ use Rattle.rtsan_core.specs.Rungs.{Rung, Stops, GoesOn}
 use Rattle.rtsan_core.specs.Ladder.{IsShort, IsSpelling, IsGrammar, IsForm, SourceLadder}
 use Rattle.rtsan_core.specs.Found.{Is, itself, AreTheTokens, IsTheTree, IsRefusedFor, IsFileRefused}
 use Rattle.rtsan_core.proofs.Climbing.{climb, climb_stop}
+use Rattle.c_text.specs.declared.limits.TheConstants.{SOURCE_LIMIT}
 
 abbrev place_by : ℕ → ℕ → LineColumn
 place_by line column = record { line = line; column = column }
@@ -24,18 +25,18 @@ place_by line column = record { line = line; column = column }
 placed : (source : List ℕ) (place line column : ℕ) → line ≡ (line_column source place).line → column ≡ (line_column source place).column → line_column source place ≡ place_by line column
 placed source place line column e f = sym (ap₂ place_by e f)
 
-short_only : (source : List ℕ) → length source ≤ 1048576 → (other : Rung (Unit {0})) → IsShort source other → other ≡ GoesOn tt
-short_only source short (Stops c) h = let long : 1048576 < length source = h.0 in absurd (omega (arith, long, short))
+short_only : (source : List ℕ) → length source ≤ SOURCE_LIMIT → (other : Rung (Unit {0})) → IsShort source other → other ≡ GoesOn tt
+short_only source short (Stops c) h = let long : SOURCE_LIMIT < length source = h.0 in absurd (omega (arith, long, short))
 short_only source short (GoesOn u) h = refl
 
-is_short : (source : List ℕ) → length source ≤ 1048576 → Is (IsShort source) (GoesOn tt)
+is_short : (source : List ℕ) → length source ≤ SOURCE_LIMIT → Is (IsShort source) (GoesOn tt)
 is_short source short = record { is = short; only = short_only source short }
 
-long_only : (source : List ℕ) → 1048576 < length source → (other : Rung (Unit {0})) → IsShort source other → other ≡ Stops SourceTooLong
+long_only : (source : List ℕ) → SOURCE_LIMIT < length source → (other : Rung (Unit {0})) → IsShort source other → other ≡ Stops SourceTooLong
 long_only source long (Stops c) h = ap Stops h.1
-long_only source long (GoesOn u) h = let short : length source ≤ 1048576 = h in absurd (omega (arith, long, short))
+long_only source long (GoesOn u) h = let short : length source ≤ SOURCE_LIMIT = h in absurd (omega (arith, long, short))
 
-pub source_long : (file source : List ℕ) → 1048576 < length source → Is (SourceLadder file source) (Stops SourceTooLong)
+pub source_long : (file source : List ℕ) → SOURCE_LIMIT < length source → Is (SourceLadder file source) (Stops SourceTooLong)
 source_long file source long =
     climb_stop itself (IsShort source) _ SourceTooLong (record { is = (long, refl); only = long_only source long })
 
@@ -53,7 +54,7 @@ misspelled_only file source number place only unspelled (Stops c) h =
 misspelled_only file source number place only unspelled (GoesOn tokens) h = absurd (unspelled tokens h)
 
 -- a source whose spelling has this first fault
-pub source_misspelled : (file source : List ℕ) (number place line column : ℕ) → length source ≤ 1048576 → line ≡ (line_column source place).line → column ≡ (line_column source place).column → IsFirstFault source number place → ((other spot : ℕ) → IsFirstFault source other spot → (other ≡ number) × (spot ≡ place)) → ((tokens : List Token) → IsSpelled source tokens → ⊥) → Is (SourceLadder file source) (Stops (Misspelled file (place_by line column) number))
+pub source_misspelled : (file source : List ℕ) (number place line column : ℕ) → length source ≤ SOURCE_LIMIT → line ≡ (line_column source place).line → column ≡ (line_column source place).column → IsFirstFault source number place → ((other spot : ℕ) → IsFirstFault source other spot → (other ≡ number) × (spot ≡ place)) → ((tokens : List Token) → IsSpelled source tokens → ⊥) → Is (SourceLadder file source) (Stops (Misspelled file (place_by line column) number))
 source_misspelled file source number place line column short e f first only unspelled =
     subst (λ p. Is (SourceLadder file source) (Stops (Misspelled file p number))) (placed source place line column e f)
     (climb itself (IsShort source) _ tt _ (is_short source short)
@@ -74,7 +75,7 @@ unread_only file source tokens number index place only unparsed (Stops c) h =
 unread_only file source tokens number index place only unparsed (GoesOn tree) h = absurd (unparsed tree h)
 
 -- a source of these tokens, of which the grammar refuses one
-pub source_unread : (file source : List ℕ) (tokens : List Token) (number index place line column : ℕ) → length source ≤ 1048576 → AreTheTokens source tokens → line ≡ (line_column source place).line → column ≡ (line_column source place).column → IsRefusedAt source tokens number index place → ((other at spot : ℕ) → IsRefusedAt source tokens other at spot → (other ≡ number) × (at ≡ index) × (spot ≡ place)) → ((tree : Tree) → IsParsed source tokens tree → ⊥) → Is (SourceLadder file source) (Stops (Unread file (place_by line column) number))
+pub source_unread : (file source : List ℕ) (tokens : List Token) (number index place line column : ℕ) → length source ≤ SOURCE_LIMIT → AreTheTokens source tokens → line ≡ (line_column source place).line → column ≡ (line_column source place).column → IsRefusedAt source tokens number index place → ((other at spot : ℕ) → IsRefusedAt source tokens other at spot → (other ≡ number) × (at ≡ index) × (spot ≡ place)) → ((tree : Tree) → IsParsed source tokens tree → ⊥) → Is (SourceLadder file source) (Stops (Unread file (place_by line column) number))
 source_unread file source tokens number index place line column short read e f refused only unparsed =
     subst (λ p. Is (SourceLadder file source) (Stops (Unread file p number))) (placed source place line column e f)
     (climb itself (IsShort source) _ tt _ (is_short source short)
@@ -91,7 +92,7 @@ built_only source tokens unit formed only (Stops c) h = absurd (h.0 unit formed)
 built_only source tokens unit formed only (GoesOn other) h = ap GoesOn (only other h)
 
 -- a source that is read and is of another form
-pub source_other : (file source : List ℕ) (tokens : List Token) (tree : Tree) → length source ≤ 1048576 → AreTheTokens source tokens → IsTheTree source tokens tree → ((unit : UnitParts) → IsOfForm source tokens unit → ⊥) → Is (SourceLadder file source) (Stops NotBuilt)
+pub source_other : (file source : List ℕ) (tokens : List Token) (tree : Tree) → length source ≤ SOURCE_LIMIT → AreTheTokens source tokens → IsTheTree source tokens tree → ((unit : UnitParts) → IsOfForm source tokens unit → ⊥) → Is (SourceLadder file source) (Stops NotBuilt)
 source_other file source tokens tree short read parsed none =
     climb itself (IsShort source) _ tt _ (is_short source short)
     (climb itself (IsSpelling file source) _ tokens _ (read.spelled file)
@@ -99,7 +100,7 @@ source_other file source tokens tree short read parsed none =
     (record { is = (none, refl); only = other_only source tokens none })))
 
 -- a source that reads as a unit
-pub source_built : (file source : List ℕ) (tokens : List Token) (tree : Tree) (unit : UnitParts) → length source ≤ 1048576 → AreTheTokens source tokens → IsTheTree source tokens tree → IsOfForm source tokens unit → ((other : UnitParts) → IsOfForm source tokens other → other ≡ unit) → Is (SourceLadder file source) (GoesOn unit)
+pub source_built : (file source : List ℕ) (tokens : List Token) (tree : Tree) (unit : UnitParts) → length source ≤ SOURCE_LIMIT → AreTheTokens source tokens → IsTheTree source tokens tree → IsOfForm source tokens unit → ((other : UnitParts) → IsOfForm source tokens other → other ≡ unit) → Is (SourceLadder file source) (GoesOn unit)
 source_built file source tokens tree unit short read parsed formed only =
     climb itself (IsShort source) _ tt _ (is_short source short)
     (climb itself (IsSpelling file source) _ tokens _ (read.spelled file)

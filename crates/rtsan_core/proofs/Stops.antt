@@ -3,7 +3,7 @@ use Rattle.std.proofs.Common.{◌≡◌, ◌≢◌, ℕ, ◌<◌, ◌⊎◌, inl
 use Rattle.built_unit.specs.Units.{UnitParts}
 use Rattle.eff_check.specs.declared.Warning.{Warning}
 use Rattle.rt_base.specs.Outside.{FilesState, SinkState, Rose, IsContents}
-use Rattle.rtsan_core.specs.declared.reading.TheConstants.{SOURCE_LIMIT}
+use Rattle.c_text.specs.declared.limits.TheConstants.{SOURCE_LIMIT}
 use Rattle.rtsan_core.specs.declared.finished.Finished.{Finished}
 use Rattle.rtsan_core.specs.declared.status.Outcome.{Outcome}
 use Rattle.rtsan_core.specs.declared.status.Status.{Status}

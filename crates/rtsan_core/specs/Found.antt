@@ -4,17 +4,17 @@ use Rattle.std.specs.Option.{option_to_list}
 use Rattle.c_text.specs.declared.Token.{Token}
 use Rattle.c_text.specs.Spelling.{IsWithin, IsInOrder}
 use Rattle.c_tree.specs.declared.statements.Tree.{Tree}
-use Rattle.c_codegen.specs.declared.compiling.CompileRefusal.{CompileRefusal}
-use Rattle.c_codegen.specs.declared.compiling.CompileRefusal.TheVariants.{NoEntry, Undefined as UndefinedFunction, Long, NoMemory as NoMemoryToCompile}
+use Rattle.built_codegen.specs.declared.compiling.CompileRefusal.{CompileRefusal}
+use Rattle.built_codegen.specs.declared.compiling.CompileRefusal.TheVariants.{NoEntry, Undefined as UndefinedFunction, Long, NoMemory as NoMemoryToCompile}
 use Rattle.built_form.specs.Built.{AreCallsWithin}
 use Rattle.built_unit.specs.Units.{UnitParts}
 use Rattle.eff_check.specs.Violations.{AreWarnings}
 use Rattle.eff_text.specs.WarningText.{function_name, ArePrintable}
 use Rattle.rt_base.specs.Outside.{FilesState, SinkState, IsContents, Rose}
-use Rattle.src_model.specs.declared.runs.Made.{Made}
-use Rattle.src_model.specs.declared.runs.End.{End}
-use Rattle.src_model.specs.Run.{IsRun}
-use Rattle.thread_run.specs.declared.running.Ran.{Ran}
+use Rattle.built_model.specs.declared.runs.Made.{Made}
+use Rattle.built_model.specs.declared.runs.End.{End}
+use Rattle.built_model.specs.Run.{IsRun}
+use Rattle.built_run.specs.declared.running.Ran.{Ran}
 use Rattle.rtsan_core.specs.declared.finished.Ended.{Ended}
 use Rattle.rtsan_core.specs.declared.reading.Found.{Found}
 use Rattle.rtsan_core.specs.declared.reading.Refusal.{Refusal}
@@ -25,6 +25,7 @@ use Rattle.rtsan_core.specs.Runs.{entry_name}
 use Rattle.rtsan_core.specs.Ladder.{Findings, IsSpelling, IsGrammar, SourceLadder}
 use Rattle.rtsan_core.specs.Outcomes.{IsPrinted, answer_at, left_at}
 use Rattle.rtsan_core.specs.declared.status.Outcome.{Outcome}
+use Rattle.c_text.specs.declared.limits.TheConstants.{SOURCE_LIMIT}
 
 -- a rung comes to this, and whatever else it may come to looks the same
 pub record Gives {V B : Type 0} (seen : Rung V → B) (rung : Rung V → Type 0) (end : Rung V) : Type 0 where
@@ -77,7 +78,7 @@ IsFileRefused before after file refusal = (source : List ℕ) × IsContents (bef
 -- the warnings are those of the unit, and what is told of it can be printed over the source
 pub record IsReady (found : Found) : Type 0 where
   pub warnings : AreWarnings found.unit found.verdicts
-  pub short : length found.source ≤ 1048576
+  pub short : length found.source ≤ SOURCE_LIMIT
   pub placed : AreCallsWithin found.source found.unit
   pub printable : ArePrintable found.source found.unit found.verdicts
 

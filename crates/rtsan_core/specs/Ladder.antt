@@ -8,12 +8,12 @@ use Rattle.c_tree.specs.declared.statements.Tree.{Tree}
 use Rattle.c_parse.specs.Parsed.{IsParsed, IsRefusedAt}
 use Rattle.built_unit.specs.Units.{UnitParts}
 use Rattle.built_form.specs.Built.{IsOfForm}
-use Rattle.c_codegen.specs.Unit.{HasNoEntry, IsEntry, IsFirstMissing, unit_nodes, node_limit}
+use Rattle.built_codegen.specs.Unit.{HasNoEntry, IsEntry, IsFirstMissing, unit_nodes, node_limit}
 use Rattle.eff_check.specs.declared.Warning.{Warning}
 use Rattle.eff_check.specs.Violations.{AreWarnings}
 use Rattle.eff_text.specs.WarningText.{function_name}
 use Rattle.rt_base.specs.Outside.{FilesState, IsContents, Rose}
-use Rattle.rtsan_core.specs.declared.reading.TheConstants.{SOURCE_LIMIT}
+use Rattle.c_text.specs.declared.limits.TheConstants.{SOURCE_LIMIT}
 use Rattle.rtsan_core.specs.declared.finished.Finished.{Finished}
 use Rattle.rtsan_core.specs.declared.words.Command.{Command}
 use Rattle.rtsan_core.specs.declared.words.Job.{Job}

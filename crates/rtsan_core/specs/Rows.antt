@@ -1,9 +1,9 @@
 -- When each status comes, a row for each.
 use Rattle.std.specs.Prelude.{◌≡◌, ◌≢◌, ◌↔◌, ℕ, ◌<◌, ◌⊎◌, true, false, List, length, Option, Some, None, IsSomeAnd}
 use Rattle.built_unit.specs.Units.{UnitParts}
-use Rattle.c_codegen.specs.Unit.{unit_nodes, node_limit}
+use Rattle.built_codegen.specs.Unit.{unit_nodes, node_limit}
 use Rattle.rt_base.specs.Outside.{FilesState, SinkState, IsContents, Rose, TakesAll}
-use Rattle.rtsan_core.specs.declared.reading.TheConstants.{SOURCE_LIMIT}
+use Rattle.c_text.specs.declared.limits.TheConstants.{SOURCE_LIMIT}
 use Rattle.rtsan_core.specs.declared.finished.Finished.{Finished}
 use Rattle.rtsan_core.specs.declared.status.Outcome.{Outcome}
 use Rattle.rtsan_core.specs.declared.status.Status.{Status}

@@ -2,17 +2,17 @@
 use Rattle.std.specs.Prelude.{◌≡◌, ℕ, ◌≤◌, Bool, true, false, nat_lt, List, [], ◌∷◌, ◌++◌, length, None, codes}
 use Rattle.std.specs.List.{flat_map, list_any}
 use Rattle.built_unit.specs.Units.{UnitParts}
-use Rattle.c_codegen.specs.Unit.{IsEntry, IsFirstMissing, unit_nodes, node_limit}
+use Rattle.built_codegen.specs.Unit.{IsEntry, IsFirstMissing, unit_nodes, node_limit}
 use Rattle.eff_check.specs.declared.Warning.{Warning}
 use Rattle.eff_text.specs.WarningText.{warnings_text}
-use Rattle.mcode.specs.Machine.{Program}
-use Rattle.reports.specs.RunText.{reports_text, thread_line}
-use Rattle.reports.specs.Totals.{counted}
-use Rattle.src_model.specs.declared.runs.End.{End}
-use Rattle.src_model.specs.declared.runs.End.TheVariants.{Returned, Exited, Trapped as EndTrapped, Halted, Stopped as EndStopped, Waiting, Full}
-use Rattle.src_model.specs.Follows.{Behaves}
-use Rattle.src_model.specs.Context.{report_stacks}
-use Rattle.src_model.specs.Run.{IsRun, machine_after_trace}
+use Rattle.built_code.specs.Machine.{Program}
+use Rattle.built_reports.specs.RunText.{reports_text, thread_line}
+use Rattle.built_reports.specs.Totals.{counted}
+use Rattle.built_model.specs.declared.runs.End.{End}
+use Rattle.built_model.specs.declared.runs.End.TheVariants.{Returned, Exited, Trapped as EndTrapped, Halted, Stopped as EndStopped, Waiting, Full}
+use Rattle.built_model.specs.Follows.{Behaves}
+use Rattle.built_model.specs.Context.{report_stacks}
+use Rattle.built_model.specs.Run.{IsRun, machine_after_trace}
 use Rattle.rtsan_core.specs.declared.finished.Ended.{Ended}
 use Rattle.rtsan_core.specs.declared.finished.Finished.{Finished}
 use Rattle.rtsan_core.specs.declared.status.Status.{Status}

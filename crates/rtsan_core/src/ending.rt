@@ -5,8 +5,8 @@ ghost use Rattle.rtsan_core.specs.Runs.{is_full, is_trapped, is_stopped, has_ful
 
 use crate::finished::Finished;
 use crate::status::Status;
+use built_model::End;
 use eff_check::Verdicts;
-use src_model::End;
 
 /// The status of a unit with these warnings, where nothing else is said of it.
 pub fn warned_status(verdicts: &Verdicts) -> Status

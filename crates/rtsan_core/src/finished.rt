@@ -2,9 +2,9 @@
 
 ghost use Rattle.std.specs.Prelude.{◌≡◌, ◌∷◌, [], ◌++◌, OnOk, OnErr};
 
-use mcode::{Code, Thread};
-use reports::StackList;
-use src_model::{End, Trace};
+use built_code::{Code, Thread};
+use built_model::{End, Trace};
+use built_reports::StackList;
 use std::alloc::{AllocError, Global};
 use std::marker::Model;
 

@@ -12,11 +12,11 @@ use crate::ending::{run_status, warned_status};
 use crate::finished::{Ended, Finished};
 use crate::reading::{Found, Refusal};
 use crate::status::Status;
+use built_codegen::CompileRefusal;
+use built_reports::{write_ending, write_reports};
 use built_unit::Unit;
-use c_codegen::CompileRefusal;
 use eff_text::{write_pieces, write_warnings};
 use itoa::Buffer;
-use reports::{write_ending, write_reports};
 use rt_base::{Sink, SinkFault, write_all};
 
 /// The function that a run begins with.

@@ -4,18 +4,16 @@ ghost use Rattle.std.specs.Prelude.{◌≤◌, length, IfOk, IfErr};
 ghost use Rattle.rt_base.specs.Outside.{IsContents, KeepsContents};
 ghost use Rattle.built_form.specs.Built.{AreCallsWithin};
 ghost use Rattle.rtsan_core.specs.Found.{AreTheTokens, IsTheTree, IsTheUnit, IsRefusedFor, IsFileRefused, IsFound};
+ghost use Rattle.c_text.specs.declared.limits.TheConstants.{SOURCE_LIMIT};
 
 use built_form::{FormRefusal, read_form};
 use built_unit::Unit;
 use c_parse::{ParseRefusal, parse};
-use c_text::{TextRefusal, Token, TokenList, line_column, tokens};
+use c_text::{SOURCE_LIMIT, TextRefusal, Token, TokenList, line_column, tokens};
 use c_tree::Tree;
 use eff_check::{Verdicts, check};
 use rt_base::{Bytes, Files, ReadRefusal, read_all};
 use std::alloc::{AllocError, Global};
-
-/// How many bytes a source may have.
-pub const SOURCE_LIMIT: u32 = 1_048_576;
 
 /// Why a file has no unit.
 pub enum Refusal {
@@ -63,7 +61,7 @@ pub fn read_file<F: Files>(alloc: Global, files: &mut F, file: &str) -> Result<F
 /// The contents of a file.
 fn read_source<F: Files>(alloc: Global, files: &mut F, file: &str) -> Result<Bytes, Refusal>
     ensures read { IfOk result (IsContents ((F.state files.old).contents file.now)) }
-    ensures short { IfOk result (λ source. length source ≤ 1048576) }
+    ensures short { IfOk result (λ source. length source ≤ SOURCE_LIMIT) }
     ensures refused { IfErr result (IsFileRefused (F.state files.old) (F.state files.new) file.now) }
     ensures kept { KeepsContents (F.state files.old) (F.state files.new) }
 {
@@ -77,7 +75,7 @@ fn read_source<F: Files>(alloc: Global, files: &mut F, file: &str) -> Result<Byt
 
 /// The unit of a source.
 fn read_unit(alloc: Global, source: &[u8]) -> Result<Unit, Refusal>
-    requires { length source.now ≤ 1048576 }
+    requires { length source.now ≤ SOURCE_LIMIT }
     ensures read { IfOk result (IsTheUnit source.now) }
     ensures placed { IfOk result (AreCallsWithin source.now) }
     ensures refused { IfErr result (IsRefusedFor source.now) }
@@ -90,7 +88,7 @@ fn read_unit(alloc: Global, source: &[u8]) -> Result<Unit, Refusal>
 
 /// The tokens of a source.
 fn read_tokens(alloc: Global, source: &[u8]) -> Result<TokenList, Refusal>
-    requires { length source.now ≤ 1048576 }
+    requires { length source.now ≤ SOURCE_LIMIT }
     ensures read { IfOk result (AreTheTokens source.now) }
     ensures refused { IfErr result (IsRefusedFor source.now) }
 {
@@ -110,7 +108,7 @@ fn read_tokens(alloc: Global, source: &[u8]) -> Result<TokenList, Refusal>
 
 /// The tree of its tokens.
 fn read_tree(alloc: Global, source: &[u8], tokens: &[Token]) -> Result<Tree, Refusal>
-    requires short { length source.now ≤ 1048576 }
+    requires short { length source.now ≤ SOURCE_LIMIT }
     requires tokens { AreTheTokens source.now tokens.now }
     ensures read { IfOk result (IsTheTree source.now tokens.now) }
     ensures refused { IfErr result (IsRefusedFor source.now) }
@@ -137,7 +135,7 @@ fn read_tree(alloc: Global, source: &[u8], tokens: &[Token]) -> Result<Tree, Ref
 
 /// The unit of its tokens, where they are of the form that is built.
 fn read_built(alloc: Global, source: &[u8], tokens: &[Token], tree: &Tree) -> Result<Unit, Refusal>
-    requires short { length source.now ≤ 1048576 }
+    requires short { length source.now ≤ SOURCE_LIMIT }
     requires tokens { AreTheTokens source.now tokens.now }
     requires tree { IsTheTree source.now tokens.now tree.now }
     ensures read { IfOk result (IsTheUnit source.now) }

@@ -2,8 +2,8 @@
 
 ghost use Rattle.std.specs.Prelude.{◌≡◌, [], ◌∷◌, length, IfOk};
 ghost use Rattle.std.specs.Option.{option_to_list};
-ghost use Rattle.src_model.specs.Follows.{Behaves};
-ghost use Rattle.reports.specs.Totals.{counted};
+ghost use Rattle.built_model.specs.Follows.{Behaves};
+ghost use Rattle.built_reports.specs.Totals.{counted};
 ghost use Rattle.rtsan_core.specs.Ladder.{JobLadder};
 ghost use Rattle.rtsan_core.specs.Runs.{IsFinished};
 ghost use Rattle.rtsan_core.specs.Found.{HasOneRun, IsReady, IsOnlyOutcome, ended_of};
@@ -13,13 +13,13 @@ use crate::printing::{ENTRY, print_no_memory, print_run, print_uncompiled};
 use crate::reading::Found;
 use crate::status::{Outcome, ended};
 use crate::words::Job;
+use built_code::Code;
+use built_codegen::compile;
+use built_reports::collect_one;
+use built_run::{Ran, run_thread};
 use built_unit::Unit;
-use c_codegen::compile;
-use mcode::Code;
-use reports::collect_one;
 use rt_base::Sink;
 use std::alloc::{AllocError, Global};
-use thread_run::{Ran, run_thread};
 
 /// The law of one run: a unit has one trace and one ending from each entry. The call itself does nothing.
 pub fn law_one_run(unit: &Unit)

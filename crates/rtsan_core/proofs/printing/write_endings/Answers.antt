@@ -1,6 +1,6 @@
 -- a fault within a line leaves the lines before it and a prefix of it
 use Rattle.std.proofs.lemmas.Result.{err_from_is_err_and}
-use Rattle.reports.specs.RunText.{thread_line}
+use Rattle.built_reports.specs.RunText.{thread_line}
 use Rattle.rt_base.proofs.Pieces.{fails_next}
 use Rattle.rtsan_core.proofs.printing.write_endings.Goals as goal
 

@@ -1,7 +1,0 @@
-use Rattle.std.proofs.Common.{◌≡◌, ◌++◌, [], take}
-use Rattle.src_model.specs.Source.{calls}
-use Rattle.c_codegen.specs.Instructions.{tasks_code}
-use Rattle.c_codegen.proofs.emission.emit_calls.Given as goal
-
-abbrev pub invariant-loop-site : goal.invariant-loop-site
-invariant-loop-site l = l.code ≡ l.initial.code ++ tasks_code (calls l.unit (take l.site-index l.sites) [])
