@@ -1,3 +1,4 @@
+pub mod Callees
 pub mod Sums
 pub mod Equations
 pub mod Packing

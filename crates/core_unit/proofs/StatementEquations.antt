@@ -1,8 +1,12 @@
 -- What the count and the places of a statement are, from those of its parts: one equation a form.
-use Rattle.std.proofs.Common.{◌≡◌, refl, ap, ◌+◌, List, [], ◌∷◌, Option}
+use Rattle.std.proofs.Common.{◌≡◌, refl, ap, ℕ, ◌+◌, List, [], ◌∷◌, Option}
 use denote.Hole.Carrier.{hidden}
-use Rattle.core_unit.specs.Nodes.{nodes, optional_nodes, initializer_nodes, stmt_nodes, stmts_nodes, start_nodes, list_nodes, begun_nodes}
+use Rattle.core_unit.specs.Nodes.{nodes, optional_nodes, initializer_nodes, initializers_nodes, listed_nodes, stmt_nodes, stmts_nodes, start_nodes, list_nodes, begun_nodes}
 use Rattle.core_unit.specs.Places.{spots, optional_spots, initializer_spots, stmt_spots, stmts_spots, list_spots, declared, Spot}
+use Rattle.core_unit.specs.declared.body.Braces.TheVariants.{Bare, Braced}
+use Rattle.core_unit.specs.declared.body.Initializer.{Initializer}
+use Rattle.core_unit.specs.declared.body.Initializer.TheBlock.{hidden-the_row-Initializer-0, shape-the_row-Initializer-0}
+use Rattle.core_unit.specs.declared.body.Initializer.TheVariants as init
 use Rattle.core_unit.specs.declared.body.LocalVariable.{LocalVariable}
 use Rattle.core_unit.specs.declared.body.LoopKind.{LoopKind}
 use Rattle.core_unit.specs.declared.body.LoopKind.TheVariants.{While, DoWhile}
@@ -11,6 +15,39 @@ use Rattle.core_unit.specs.declared.body.Stmt.{Stmt}
 use Rattle.core_unit.specs.declared.body.Stmt.TheBlock.{hidden-the_row-Stmt-0, shape-the_row-Stmt-0, hidden-the_row-Stmt-1, shape-the_row-Stmt-1}
 use Rattle.core_unit.specs.declared.body.Stmt.TheVariants as stmt
 use Rattle.core_unit.specs.declared.expressions.Expr.{Expr}
+
+listed_row : (is : List Initializer) → initializers_nodes (hidden-the_row-Initializer-0 is) ≡ listed_nodes is
+unfolding initializer_nodes hidden hidden-the_row-Initializer-0 shape-the_row-Initializer-0
+listed_row [] = refl
+listed_row (i ∷ is) = ap (λ n. initializer_nodes i + n) (listed_row is)
+
+pub nodes-List : (is : List Initializer) (after : ℕ) → initializer_nodes (init.List is after) ≡ 1 + listed_nodes is
+unfolding initializer_nodes hidden hidden-the_row-Initializer-0 shape-the_row-Initializer-0
+nodes-List is after = ap (λ n. 1 + n) (listed_row is)
+
+pub nodes-Absent : (words : ℕ) → initializer_nodes (init.Absent words) ≡ 0
+unfolding initializer_nodes
+nodes-Absent words = refl
+
+pub nodes-Bare : (e : Expr) → initializer_nodes (init.Value Bare e) ≡ 1 + nodes e
+unfolding initializer_nodes
+nodes-Bare e = refl
+
+pub nodes-Braced : (e : Expr) → initializer_nodes (init.Value Braced e) ≡ 2 + nodes e
+unfolding initializer_nodes
+nodes-Braced e = refl
+
+pub nodes-Text : (bytes : List ℕ) (after : ℕ) → initializer_nodes (init.Text bytes after) ≡ 2
+unfolding initializer_nodes
+nodes-Text bytes after = refl
+
+pub nodes-Zeros : (words : ℕ) → initializer_nodes (init.Zeros words) ≡ 3
+unfolding initializer_nodes
+nodes-Zeros words = refl
+
+pub nodes-Mutex : initializer_nodes init.Mutex ≡ 2
+unfolding initializer_nodes
+nodes-Mutex = refl
 
 nodes_row : (ss : List Stmt) → stmts_nodes (hidden-the_row-Stmt-0 ss) ≡ list_nodes ss
 unfolding stmt_nodes hidden hidden-the_row-Stmt-0 shape-the_row-Stmt-0
@@ -29,6 +66,18 @@ nodes-Block ss = ap (λ n. 1 + n) (nodes_row ss)
 pub nodes-Variable : (v : LocalVariable) → stmt_nodes (stmt.Variable v) ≡ 1 + initializer_nodes v.initializer
 unfolding stmt_nodes
 nodes-Variable v = refl
+
+pub nodes-Empty : stmt_nodes stmt.Empty ≡ 1
+unfolding stmt_nodes
+nodes-Empty = refl
+
+pub nodes-Break : stmt_nodes stmt.Break ≡ 1
+unfolding stmt_nodes
+nodes-Break = refl
+
+pub nodes-Continue : stmt_nodes stmt.Continue ≡ 1
+unfolding stmt_nodes
+nodes-Continue = refl
 
 pub nodes-Expression : (e : Expr) → stmt_nodes (stmt.Expression e) ≡ 1 + nodes e
 unfolding stmt_nodes
@@ -92,7 +141,10 @@ unfolding stmt_spots
 spots-Return rest e = refl
 
 -- the counts of all forms
-pub ruleset stmt_node_rules = (nodes-Block, nodes-Variable, nodes-Expression, nodes-If, nodes-Loop, nodes-For, nodes-Return)
+pub ruleset stmt_node_rules = (nodes-Block, nodes-Variable, nodes-Empty, nodes-Break, nodes-Continue, nodes-Expression, nodes-If, nodes-Loop, nodes-For, nodes-Return)
 
 -- the places of all forms
 pub ruleset stmt_spot_rules = (spots-Block, spots-Variable, spots-Expression, spots-If, spots-While, spots-DoWhile, spots-For, spots-Return)
+
+-- the counts of all initializers
+pub ruleset initializer_rules = (nodes-Absent, nodes-Bare, nodes-Braced, nodes-List, nodes-Text, nodes-Zeros, nodes-Mutex)

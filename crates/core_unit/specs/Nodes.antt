@@ -97,6 +97,11 @@ unfoldable mutual
   initializers_nodes end_of-Initializer = 0
   initializers_nodes (more_of-Initializer i is) = initializer_nodes i + initializers_nodes is
 
+-- the same of a list
+abbrev pub listed_nodes : List Initializer → ℕ
+listed_nodes [] = 0
+listed_nodes (i ∷ is) = initializer_nodes i + listed_nodes is
+
 unfoldable mutual
   pub stmt_nodes : Stmt → ℕ
   stmt_nodes (stmt.Block' _ items) = 1 + stmts_nodes items

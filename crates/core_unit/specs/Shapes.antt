@@ -1,6 +1,8 @@
 -- What typing asks of types.
 use Rattle.std.specs.Prelude.{ℕ, Bool, true, false, not, ◌&&◌, ◌||◌, Option, Some, None}
 use Rattle.eff_types.specs.Types.{is_number, is_void, is_function, points_to}
+use Rattle.eff_types.specs.declared.levels.Level.{Level}
+use Rattle.eff_types.specs.declared.levels.Level.TheVariants.{Plain}
 use Rattle.eff_types.specs.declared.types.FnType.{FnType}
 use Rattle.eff_types.specs.declared.types.CType.{CType, Void, Int, Unsigned, Struct, Pointer', Array', Function', end_of-CType, more_of-CType, items-the_row-CType}
 use Rattle.core_unit.specs.declared.operators.Sign.{Sign}
@@ -16,6 +18,15 @@ function_in _ = None
 unfoldable pub callee_of : CType → Option FnType
 callee_of (Pointer' _ (more_of-CType t end_of-CType)) = function_in t
 callee_of t = function_in t
+
+-- The level that is known of a function by this type; Plain where it is none.
+abbrev pub level_in : Option FnType → Level
+level_in (Some f) = f.effects.level
+level_in None = Plain
+
+-- The level that is known of the function which a type is or points to, and which the store of such a pointer writes (this project's own rule).
+abbrev pub level_of : CType → Level
+level_of t = level_in (callee_of t)
 
 abbrev pub result_of : Option FnType → CType
 result_of (Some f) = f.result

@@ -11,7 +11,7 @@ use eff_types::CType;
 
 /// The sum, as far as 32 bits tell it.
 #[tactic(auto, using(crate::proofs::Sums::told_sum))]
-fn sum(a: u32, b: u32) -> u32
+pub(crate) fn sum(a: u32, b: u32) -> u32
     ensures { (m n : ℕ) → a ≡ told m → b ≡ told n → result ≡ told (m + n) }
 {
     a.saturating_add(b)

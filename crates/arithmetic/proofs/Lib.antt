@@ -1,0 +1,4 @@
+pub mod Converted
+pub mod Moved
+pub mod Shifts
+pub mod Tried

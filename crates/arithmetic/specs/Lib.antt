@@ -1,0 +1,5 @@
+pub mod Numbers
+pub mod Operations
+pub mod Operators
+pub mod Pointers
+pub mod Values
