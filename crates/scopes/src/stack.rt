@@ -1,6 +1,6 @@
 //! Scopes inside one another, each with the names that are declared in it.
 
-ghost use Rattle.std.specs.Prelude.{◌≡◌, ◌<◌, [], ◌∷◌, length, drop, OnOk, OnErr};
+ghost use Rattle.std.specs.Prelude.{◌≡◌, [], ◌∷◌, drop, OnOk, OnErr};
 ghost use Rattle.std.specs.Option.{option_copied};
 ghost use Rattle.scopes.specs.Scope.{found, found_here};
 ghost use Rattle.scopes.specs.Scope as spec;
@@ -80,10 +80,9 @@ impl<V: Drop> Scopes<V> {
         }
     }
 
-    /// Declares the name in the innermost scope; a name that is declared there already takes the new meaning. Where memory is
-    /// refused, the innermost scope may be lost.
+    /// Declares the name in the innermost scope; a name that is declared there already takes the new meaning. Where no scope
+    /// is open, nothing is declared. Where memory is refused, the innermost scope may be lost.
     pub fn declare(&mut self, name: u32, value: V) -> Result<(), AllocError>
-        requires { 0 < length self.old }
         ensures { OnOk result (self.new ≡ spec.declare self.old name value) }
     {
         if let Some(mut map) = self.maps.pop() {

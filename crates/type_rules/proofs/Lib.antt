@@ -1,0 +1,12 @@
+pub mod Trees
+pub mod TriedConstants
+pub mod TriedDeclarations
+pub mod TriedExpressions
+pub mod TriedInitializers
+pub mod TriedLimits
+pub mod TriedProgram
+pub mod TriedReadings
+pub mod TriedSeen
+pub mod TriedStatements
+pub mod TriedUnits
+pub mod TriedWhole
