@@ -8,8 +8,8 @@ use std::marker::Model;
 /// The most steps of a stack: 256 functions, and one library function that they call.
 pub const MAX_STEPS: usize = 257;
 
-/// A step of a stack: a function, and the call that led to it.
-#[derive(Clone, Copy)]
+/// A step of a stack: a function, and the call that led to it. Steps are in order of their functions, and then of their calls.
+#[derive(Clone, Copy, PartialEq, Eq, PartialOrd, Ord, Hash)]
 pub struct StackStep {
     /// the number of the function
     pub target: u32,

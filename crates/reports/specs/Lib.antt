@@ -1,0 +1,5 @@
+pub mod Stacks
+pub mod Prefixes
+pub mod Passes
+pub mod Counts
+pub mod ReportText
