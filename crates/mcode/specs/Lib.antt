@@ -1,0 +1,5 @@
+pub mod Steps
+pub mod Memory
+pub mod Words
+pub mod Stages
+pub mod Machine

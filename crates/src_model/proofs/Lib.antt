@@ -1,0 +1,6 @@
+pub mod Trial
+pub mod TriedRuns
+pub mod TriedTraps
+pub mod TriedRows
+pub mod TriedOrders
+pub mod TriedEndings

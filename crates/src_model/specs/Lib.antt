@@ -1,0 +1,10 @@
+pub mod Tasks
+pub mod Rules
+pub mod Weights
+pub mod Source
+pub mod Traces
+pub mod Prefixes
+pub mod Runs
+pub mod Totals
+pub mod Excused
+pub mod Scheduled
