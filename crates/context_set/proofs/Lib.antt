@@ -1,0 +1,15 @@
+pub mod Seats
+pub mod Tree
+pub mod Paths
+pub mod KeyLemmas
+pub mod Ways
+pub mod Grows
+pub mod Lists
+pub mod Kept
+pub mod SetSteps
+pub mod SetCounts
+pub mod SetJoins
+pub mod Wholes
+pub mod Allowed
+pub mod Climbing
+pub mod Tally

@@ -1,0 +1,9 @@
+pub mod Paths
+pub mod Held
+pub mod Sound
+pub mod Tree
+pub mod Keys
+pub mod Rule
+pub mod Steps
+pub mod Passes
+pub mod Closed
