@@ -7,3 +7,5 @@ mod parse;
 mod serve;
 #[cfg(test)]
 mod source;
+#[cfg(test)]
+mod words;

@@ -9,7 +9,7 @@ use std::sync::Wait;
 use std::test::Fail;
 use std::thread::Threads;
 
-struct EmptyGate;
+pub(crate) struct EmptyGate;
 
 impl Gate for EmptyGate {
     fn before_slice(&self, _thread: u32) {}
@@ -28,7 +28,7 @@ const CHECK: &[&str] = &["check", "a.c"];
 
 const STEP: &[&str] = &["step", "a.c"];
 
-const USAGE: &[u8] = b"usage: rtsan check FILE | step FILE\n";
+pub(crate) const USAGE: &[u8] = b"usage: rtsan check FILE | step FILE\n";
 
 /// A blocking function that is called by a nonblocking one, which `main` calls.
 const BLOCKING: &[u8] =

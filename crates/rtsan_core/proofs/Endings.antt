@@ -18,10 +18,10 @@ use Rattle.rtsan_core.specs.declared.finished.Finished.{Finished}
 use Rattle.rtsan_core.specs.declared.status.Outcome.{Outcome}
 use Rattle.rtsan_core.specs.declared.status.Status.{Status}
 use Rattle.rtsan_core.specs.declared.status.Status.TheVariants.{Clean, Warned, Reported, Refused, Usage, ReadFault, WriteFault, NoMemory, Limit, Unlinked, Trapped, Stopped as StatusStopped}
-use Rattle.rtsan_core.specs.declared.words.Command.{Command}
-use Rattle.rtsan_core.specs.declared.words.Job.{Job}
-use Rattle.rtsan_core.specs.declared.words.Job.TheVariants.{Check, Step}
-use Rattle.rtsan_core.specs.Commands.{command_of}
+use Rattle.command.specs.declared.command.Command.{Command}
+use Rattle.command.specs.declared.command.Job.{Job}
+use Rattle.command.specs.declared.command.Job.TheVariants.{Check, Step, Run, Gen}
+use Rattle.rtsan_core.specs.Served.{served_command}
 use Rattle.rtsan_core.specs.Causes.{Cause, NoCommand, Unreadable, SourceTooLong, Misspelled, Unread, NotBuilt, Undefined, CodeTooLong, OutOfMemory, status_of}
 use Rattle.rtsan_core.specs.Rungs.{Rung, Stops, GoesOn, Then, Stopped, WentOn}
 use Rattle.rtsan_core.specs.Runs.{IsFinished, is_full, has_full, has_trapped, has_stopped, status_by, warned_status, run_status}
@@ -33,14 +33,17 @@ same_findings : (f g : Findings) → ◌≡◌ {A = Rung Findings} (GoesOn f) (G
 same_findings f g e = cc
 
 -- what a job left is a run of its unit
-job_left : (words : List (List ℕ)) (before : FilesState) (command : Command) (source : List ℕ) (unit : UnitParts) (f : Findings) → HasSource words before command source → SourceLadder command.file source (GoesOn unit) → (job : Job) → command.job ≡ job → JobLadder job command.file source unit (GoesOn f) → IfSome f.left (IsRunOf words before)
+job_left : (words : List (List ℕ)) (before : FilesState) (command : Command) (source : List ℕ) (unit : UnitParts) (f : Findings) → HasSource words before command source → SourceLadder command.file source (GoesOn unit) → (job : Job) → command.job ≡ job → JobLadder job command source unit (GoesOn f) → IfSome f.left (IsRunOf words before)
 job_left words before command source unit f has reads Check is (Checked ws w e) =
     subst (λ left. IfSome left (IsRunOf words before)) (sym (ap (λ g. g.left) (same_findings f _ e))) tt
 job_left words before command source unit f has reads Step is (Stopped c h e) = let clash : ⊥ = cc in absurd clash
-job_left words before command source unit f has reads Step is (WentOn u l (Stopped c h e)) = let clash : ⊥ = cc in absurd clash
-job_left words before command source unit f has reads Step is (WentOn u l (WentOn v s (Stepped ws w entry starts left p e))) =
+job_left words before command source unit f has reads Step is (WentOn t plain (Stopped c h e)) = let clash : ⊥ = cc in absurd clash
+job_left words before command source unit f has reads Step is (WentOn t plain (WentOn u l (Stopped c h e))) = let clash : ⊥ = cc in absurd clash
+job_left words before command source unit f has reads Step is (WentOn t plain (WentOn u l (WentOn v s (Stepped ws w entry starts left p e)))) =
     subst (λ left. IfSome left (IsRunOf words before)) (sym (ap (λ g. g.left) (same_findings f _ e)))
-    (record { unit = unit; runs = record { command = command; steps = is; source = source; has = has; reads = reads }; entry = entry; finished = p })
+    (record { unit = unit; runs = record { command = command; steps = record { steps = is; source = source; has = has; reads = reads }; plain = plain }; entry = entry; finished = p })
+job_left words before command source unit f has reads Run is h = absurd h
+job_left words before command source unit f has reads (Gen count) is h = absurd h
 
 ladder_left : (words : List (List ℕ)) (before after : FilesState) (f : Findings) → Ladder words before after (GoesOn f) → IfSome f.left (IsRunOf words before)
 ladder_left words before after f (Stopped c h e) = let clash : ⊥ = cc in absurd clash

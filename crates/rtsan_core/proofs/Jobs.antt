@@ -14,11 +14,10 @@ use Rattle.built_model.proofs.OneRun.{one_trace, one_ending}
 use Rattle.rtsan_core.specs.declared.finished.Finished.{Finished}
 use Rattle.rtsan_core.specs.declared.status.Outcome.{Outcome}
 use Rattle.rtsan_core.specs.declared.status.Status.{Status}
-use Rattle.rtsan_core.specs.declared.words.Job.TheVariants.{Check, Step}
 use Rattle.rtsan_core.specs.Causes.{Cause, Undefined, CodeTooLong, OutOfMemory}
 use Rattle.rtsan_core.specs.Rungs.{Rung, Stops, GoesOn}
 use Rattle.rtsan_core.specs.Runs.{entry_name, IsFinished}
-use Rattle.rtsan_core.specs.Ladder.{Findings, IsUndefined, IsLinked, IsCode, IsChecked, Checked, IsStepped, Stepped, JobLadder}
+use Rattle.rtsan_core.specs.Ladder.{Findings, IsUndefined, IsLinked, IsCode, IsChecked, Checked, IsStepped, Stepped, RunLadder}
 use Rattle.rtsan_core.specs.Outcomes.{Answer, IsPrinted, answer_of, answer_at, answer_by}
 use Rattle.rtsan_core.specs.Found.{Gives, Is, itself, HasOneRun, IsOnlyOutcome, IsNamedIn, cause_to_stop}
 use Rattle.rtsan_core.proofs.Climbing.{climb, climb_stop}
@@ -39,7 +38,7 @@ checked_only : (file source : List ℕ) (unit : UnitParts) (warnings : List Warn
 checked_only file source unit warnings w other (Checked vs v e) =
     ap answer_at e ∙ ap (λ ws. answer_by file source unit ws None) (AreWarnings-unique unit vs warnings v w)
 
-pub job_checked : (file source : List ℕ) (unit : UnitParts) (warnings : List Warning) → AreWarnings unit warnings → Gives answer_at (JobLadder Check file source unit) (GoesOn (findings file source unit warnings None))
+pub job_checked : (file source : List ℕ) (unit : UnitParts) (warnings : List Warning) → AreWarnings unit warnings → Gives answer_at (IsChecked file source unit) (GoesOn (findings file source unit warnings None))
 job_checked file source unit warnings w =
     record { is = Checked warnings w refl; only = checked_only file source unit warnings w }
 
@@ -66,7 +65,7 @@ not_undefined : (unit : UnitParts) (name : List ℕ) → IsUndefined unit name �
 not_undefined unit name u (Stops c) h = ap Stops (h.2 ∙ ap Undefined (one_undefined unit name h.0 u h.1))
 not_undefined unit name u (GoesOn k) h = absurd (undefined_not_linked unit name u h.0 h.1)
 
-job_undefined : (file source : List ℕ) (unit : UnitParts) (name : List ℕ) → IsUndefined unit name → Gives answer_at (JobLadder Step file source unit) (Stops (Undefined name))
+job_undefined : (file source : List ℕ) (unit : UnitParts) (name : List ℕ) → IsUndefined unit name → Gives answer_at (RunLadder file source unit) (Stops (Undefined name))
 job_undefined file source unit name u =
     climb_stop answer_at (IsLinked unit) _ (Undefined name) (record { is = (name, u, refl); only = not_undefined unit name u })
 
@@ -78,7 +77,7 @@ long_only : (unit : UnitParts) → node_limit < unit_nodes unit → (other : Run
 long_only unit long (Stops c) h = ap Stops h.1
 long_only unit long (GoesOn u) h = let short : unit_nodes unit ≤ node_limit = h in absurd (omega (arith, long, short))
 
-job_long : (file source : List ℕ) (unit : UnitParts) → (HasNoEntry unit entry_name → ⊥) → IsFirstMissing unit None → node_limit < unit_nodes unit → Gives answer_at (JobLadder Step file source unit) (Stops CodeTooLong)
+job_long : (file source : List ℕ) (unit : UnitParts) → (HasNoEntry unit entry_name → ⊥) → IsFirstMissing unit None → node_limit < unit_nodes unit → Gives answer_at (RunLadder file source unit) (Stops CodeTooLong)
 job_long file source unit some linked long =
     climb answer_at (IsLinked unit) _ tt _ (is_linked unit some linked)
     (climb_stop answer_at (IsCode unit) _ CodeTooLong (record { is = (long, refl); only = long_only unit long }))
@@ -90,7 +89,7 @@ stepped_only file source unit entry warnings left one w starts p other (Stepped 
     ∙ ap (λ ws. answer_by file source unit ws (Some g)) (AreWarnings-unique unit vs warnings v w)
     ∙ same_answer file source unit warnings entry g left one q p
 
-pub job_stepped : (file source : List ℕ) (unit : UnitParts) (entry : ℕ) (warnings : List Warning) (left : Finished) → HasOneRun unit → IsEntry unit entry_name entry → IsFirstMissing unit None → unit_nodes unit ≤ node_limit → AreWarnings unit warnings → IsFinished unit entry left → Gives answer_at (JobLadder Step file source unit) (GoesOn (findings file source unit warnings (Some left)))
+pub job_stepped : (file source : List ℕ) (unit : UnitParts) (entry : ℕ) (warnings : List Warning) (left : Finished) → HasOneRun unit → IsEntry unit entry_name entry → IsFirstMissing unit None → unit_nodes unit ≤ node_limit → AreWarnings unit warnings → IsFinished unit entry left → Gives answer_at (RunLadder file source unit) (GoesOn (findings file source unit warnings (Some left)))
 job_stepped file source unit entry warnings left one starts linked short w p =
     climb answer_at (IsLinked unit) _ tt _ (is_linked unit (λ none. no_entry unit entry_name entry none starts) linked)
     (climb answer_at (IsCode unit) _ tt _ (record { is = short; only = short_only unit short })
@@ -109,7 +108,7 @@ named_in unit result Long h e = tt
 named_in unit result NoMemoryToCompile h e = tt
 
 -- where the compiler refuses, the ladder stops, or memory didn't suffice
-pub job_refused : (file source : List ℕ) (unit : UnitParts) (result : Result Program CompileRefusal) (refusal : CompileRefusal) → IsCause unit result → result ≡ Err refusal → Gives answer_at (JobLadder Step file source unit) (Stops (cause_to_stop unit refusal)) ⊎ (◌≡◌ {A = Rung Findings} (Stops (cause_to_stop unit refusal)) (Stops OutOfMemory))
+pub job_refused : (file source : List ℕ) (unit : UnitParts) (result : Result Program CompileRefusal) (refusal : CompileRefusal) → IsCause unit result → result ≡ Err refusal → Gives answer_at (RunLadder file source unit) (Stops (cause_to_stop unit refusal)) ⊎ (◌≡◌ {A = Rung Findings} (Stops (cause_to_stop unit refusal)) (Stops OutOfMemory))
 job_refused file source unit result NoEntry h e =
     inl (job_undefined file source unit entry_name (inl (h.no_entry.0 e, refl)))
 job_refused file source unit result (UndefinedFunction n) h e =
@@ -121,7 +120,7 @@ job_refused file source unit result Long h e =
 job_refused file source unit result NoMemoryToCompile h e = inr refl
 
 -- what was printed of a stop, or of a run, is the outcome
-pub job_stop_told : (file source : List ℕ) (unit : UnitParts) (cause : Cause) (outcome : Outcome) (status : Status) (old new : SinkState) → Gives answer_at (JobLadder Step file source unit) (Stops cause) ⊎ (◌≡◌ {A = Rung Findings} (Stops cause) (Stops OutOfMemory)) → IsPrinted (answer_of cause) status old new → outcome.status ≡ status → outcome.finished ≡ None → IsOnlyOutcome (JobLadder Step file source unit) outcome old new
+pub job_stop_told : (file source : List ℕ) (unit : UnitParts) (cause : Cause) (outcome : Outcome) (status : Status) (old new : SinkState) → Gives answer_at (RunLadder file source unit) (Stops cause) ⊎ (◌≡◌ {A = Rung Findings} (Stops cause) (Stops OutOfMemory)) → IsPrinted (answer_of cause) status old new → outcome.status ≡ status → outcome.finished ≡ None → IsOnlyOutcome (RunLadder file source unit) outcome old new
 job_stop_told file source unit cause outcome status old new g p s f = record {
   end = Stops cause;
   reached = g;
@@ -129,7 +128,7 @@ job_stop_told file source unit cause outcome status old new g p s f = record {
   printed = subst (λ status. IsPrinted (answer_of cause) status old new) (sym s) p;
 }
 
-pub job_run_told : (file source : List ℕ) (unit : UnitParts) (entry : ℕ) (warnings : List Warning) (left : Finished) (status : Status) (old new : SinkState) → HasOneRun unit → IsEntry unit entry_name entry → IsFirstMissing unit None → unit_nodes unit ≤ node_limit → AreWarnings unit warnings → IsFinished unit entry left → IsPrinted (answer_by file source unit warnings (Some left)) status old new → IsOnlyOutcome (JobLadder Step file source unit) (record { status = status; finished = Some left }) old new
+pub job_run_told : (file source : List ℕ) (unit : UnitParts) (entry : ℕ) (warnings : List Warning) (left : Finished) (status : Status) (old new : SinkState) → HasOneRun unit → IsEntry unit entry_name entry → IsFirstMissing unit None → unit_nodes unit ≤ node_limit → AreWarnings unit warnings → IsFinished unit entry left → IsPrinted (answer_by file source unit warnings (Some left)) status old new → IsOnlyOutcome (RunLadder file source unit) (record { status = status; finished = Some left }) old new
 job_run_told file source unit entry warnings left status old new one starts linked short w p printed = record {
   end = GoesOn (findings file source unit warnings (Some left));
   reached = inl (job_stepped file source unit entry warnings left one starts linked short w p);

@@ -5,5 +5,7 @@ pub mod Sources
 pub mod Running
 pub mod Jobs
 pub mod Outcomes
+pub mod Defaults
+pub mod Plain
 pub mod Stops
 pub mod Endings

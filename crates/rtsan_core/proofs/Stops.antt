@@ -8,10 +8,10 @@ use Rattle.rtsan_core.specs.declared.finished.Finished.{Finished}
 use Rattle.rtsan_core.specs.declared.status.Outcome.{Outcome}
 use Rattle.rtsan_core.specs.declared.status.Status.{Status}
 use Rattle.rtsan_core.specs.declared.status.Status.TheVariants.{Clean, Warned, Reported, Refused, Usage, ReadFault, WriteFault, NoMemory, Limit, Unlinked, Trapped, Stopped as StatusStopped}
-use Rattle.rtsan_core.specs.declared.words.Command.{Command}
-use Rattle.rtsan_core.specs.declared.words.Job.{Job}
-use Rattle.rtsan_core.specs.declared.words.Job.TheVariants.{Check, Step}
-use Rattle.rtsan_core.specs.Commands.{command_of}
+use Rattle.command.specs.declared.command.Command.{Command}
+use Rattle.command.specs.declared.command.Job.{Job}
+use Rattle.command.specs.declared.command.Job.TheVariants.{Check, Step, Run, Gen}
+use Rattle.rtsan_core.specs.Served.{served_command}
 use Rattle.rtsan_core.specs.Causes.{Cause, OutOfMemory, status_of}
 use Rattle.rtsan_core.specs.Rungs.{Rung, Stops, GoesOn, Then, Stopped, WentOn}
 use Rattle.rtsan_core.specs.Runs.{status_by, warned_status, has_full, has_trapped, has_stopped}
@@ -22,7 +22,7 @@ use Rattle.rtsan_core.specs.Rows.{HasLine, IsStopped, FileFailed, IsRefused, Has
 -- when each status comes that has one line, and the write fault
 abbrev pub Row : (words : List (List ℕ)) (before after : FilesState) (old new : SinkState) → Status → Type 0
 Row words before after old new Refused = IsRefused words before
-Row words before after old new Usage = command_of words ≡ None
+Row words before after old new Usage = served_command words ≡ None
 Row words before after old new ReadFault = FileFailed words before after
 Row words before after old new WriteFault = Rose old.faults new.faults
 Row words before after old new Limit = IsOverLimit words before
@@ -44,17 +44,22 @@ source_row words before after old new command source cause has h = by (source_st
   where
     by : ((SOURCE_LIMIT < length source) × (status_of cause ≡ Limit)) ⊎ (status_of cause ≡ Refused) → Row words before after old new (status_of cause)
     by (inl l) = subst (λ s. Row words before after old new s) (sym l.1) (inl (record { command = command; source = source; has = has; long = l.0 }))
-    by (inr r) = subst (λ s. Row words before after old new s) (sym r) (record { command = command; source = source; has = has; cause = cause; stops = h; status = r })
+    by (inr r) = subst (λ s. Row words before after old new s) (sym r) (inl (record { command = command; source = source; has = has; cause = cause; stops = h; status = r }))
 
-job_row : (words : List (List ℕ)) (before after : FilesState) (old new : SinkState) (command : Command) (source : List ℕ) (unit : UnitParts) (cause : Cause) → HasSource words before command source → SourceLadder command.file source (GoesOn unit) → (job : Job) → command.job ≡ job → JobLadder job command.file source unit (Stops cause) → Row words before after old new (status_of cause)
+job_row : (words : List (List ℕ)) (before after : FilesState) (old new : SinkState) (command : Command) (source : List ℕ) (unit : UnitParts) (cause : Cause) → HasSource words before command source → SourceLadder command.file source (GoesOn unit) → (job : Job) → command.job ≡ job → JobLadder job command source unit (Stops cause) → Row words before after old new (status_of cause)
 job_row words before after old new command source unit cause has reads Check is (Checked ws w e) = let clash : ⊥ = cc in absurd clash
 job_row words before after old new command source unit cause has reads Step is (Stopped c h e) =
-    subst (λ s. Row words before after old new s) (sym (ap status_of (same_cause cause c e ∙ h.2)))
-    (record { unit = unit; runs = record { command = command; steps = is; source = source; has = has; reads = reads }; name = h.0; undefined = h.1 })
-job_row words before after old new command source unit cause has reads Step is (WentOn u l (Stopped c h e)) =
     subst (λ s. Row words before after old new s) (sym (ap status_of (same_cause cause c e ∙ h.1)))
-    (inr (record { unit = unit; runs = record { command = command; steps = is; source = source; has = has; reads = reads }; long = h.0 }))
-job_row words before after old new command source unit cause has reads Step is (WentOn u l (WentOn v s (Stepped ws w entry starts left f e))) = let clash : ⊥ = cc in absurd clash
+    (inr (record { command = command; unit = unit; steps = record { steps = is; source = source; has = has; reads = reads }; options = h.0 }))
+job_row words before after old new command source unit cause has reads Step is (WentOn t plain (Stopped c h e)) =
+    subst (λ s. Row words before after old new s) (sym (ap status_of (same_cause cause c e ∙ h.2)))
+    (record { unit = unit; runs = record { command = command; steps = record { steps = is; source = source; has = has; reads = reads }; plain = plain }; name = h.0; undefined = h.1 })
+job_row words before after old new command source unit cause has reads Step is (WentOn t plain (WentOn u l (Stopped c h e))) =
+    subst (λ s. Row words before after old new s) (sym (ap status_of (same_cause cause c e ∙ h.1)))
+    (inr (record { unit = unit; runs = record { command = command; steps = record { steps = is; source = source; has = has; reads = reads }; plain = plain }; long = h.0 }))
+job_row words before after old new command source unit cause has reads Step is (WentOn t plain (WentOn u l (WentOn v s (Stepped ws w entry starts left f e)))) = let clash : ⊥ = cc in absurd clash
+job_row words before after old new command source unit cause has reads Run is h = absurd h
+job_row words before after old new command source unit cause has reads (Gen count) is h = absurd h
 
 -- a rung for each row
 stop_row : (words : List (List ℕ)) (before after : FilesState) (old new : SinkState) (cause : Cause) → Ladder words before after (Stops cause) → Row words before after old new (status_of cause)

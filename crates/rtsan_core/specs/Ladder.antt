@@ -15,18 +15,18 @@ use Rattle.eff_text.specs.WarningText.{function_name}
 use Rattle.rt_base.specs.Outside.{FilesState, IsContents, Rose}
 use Rattle.c_text.specs.declared.limits.TheConstants.{SOURCE_LIMIT}
 use Rattle.rtsan_core.specs.declared.finished.Finished.{Finished}
-use Rattle.rtsan_core.specs.declared.words.Command.{Command}
-use Rattle.rtsan_core.specs.declared.words.Job.{Job}
-use Rattle.rtsan_core.specs.declared.words.Job.TheVariants.{Check, Step}
-use Rattle.rtsan_core.specs.Commands.{command_of}
+use Rattle.command.specs.declared.command.Command.{Command}
+use Rattle.command.specs.declared.command.Job.{Job}
+use Rattle.command.specs.declared.command.Job.TheVariants.{Check, Step, Run, Gen}
+use Rattle.rtsan_core.specs.Served.{served_command, HasDefaults}
 use Rattle.rtsan_core.specs.Causes.{Cause, NoCommand, Unreadable, SourceTooLong, Misspelled, Unread, NotBuilt, Undefined, CodeTooLong}
 use Rattle.rtsan_core.specs.Rungs.{Rung, Stops, GoesOn, Then}
 use Rattle.rtsan_core.specs.Runs.{entry_name, IsFinished}
 
--- the words are a command
+-- the words are a command that is served
 abbrev pub IsCommand : List (List ℕ) → Rung Command → Type 0
-IsCommand words (Stops cause) = (command_of words ≡ None) × (cause ≡ NoCommand)
-IsCommand words (GoesOn command) = command_of words ≡ Some command
+IsCommand words (Stops cause) = (served_command words ≡ None) × (cause ≡ NoCommand)
+IsCommand words (GoesOn command) = served_command words ≡ Some command
 
 -- its file is read, whose count of faults may rise meanwhile
 abbrev pub IsSource : (before after : FilesState) → List ℕ → Rung (List ℕ) → Type 0
@@ -52,6 +52,11 @@ IsGrammar file source tokens (GoesOn tree) = IsParsed source tokens tree
 abbrev pub IsForm : List ℕ → List Token → Rung UnitParts → Type 0
 IsForm source tokens (Stops cause) = ((unit : UnitParts) → IsOfForm source tokens unit → ⊥) × (cause ≡ NotBuilt)
 IsForm source tokens (GoesOn unit) = IsOfForm source tokens unit
+
+-- its options are those that runs carry: none but the defaults so far (a rung that goes once runs carry all)
+abbrev pub IsPlain : Command → Rung (Unit {0}) → Type 0
+IsPlain command (Stops cause) = (HasDefaults command → ⊥) × (cause ≡ NotBuilt)
+IsPlain command (GoesOn plain) = HasDefaults command
 
 -- the name of the entry, where it has no definition, and else of the first called function by number that has none
 abbrev pub IsUndefined : UnitParts → List ℕ → Type 0
@@ -93,20 +98,30 @@ SourceLadder file source =
     Then (IsGrammar file source tokens) (λ tree.
     IsForm source tokens)))
 
--- from a unit to what the job finds of it
-abbrev pub JobLadder : Job → (file source : List ℕ) → UnitParts → Rung Findings → Type 0
-JobLadder Check file source unit = IsChecked file source unit
-JobLadder Step file source unit =
+-- from a unit to what its run leaves
+abbrev pub RunLadder : (file source : List ℕ) → UnitParts → Rung Findings → Type 0
+RunLadder file source unit =
     Then (IsLinked unit) (λ linked.
     Then (IsCode unit) (λ short.
     IsStepped file source unit))
+
+-- `run` and `gen` have no end yet: the first rung stops before them
+abbrev pub IsToCome : Rung Findings → Type 0
+IsToCome end = ⊥
+
+-- from a unit to what the job of the command finds of it
+abbrev pub JobLadder : Job → Command → (source : List ℕ) → UnitParts → Rung Findings → Type 0
+JobLadder Check command source unit = IsChecked command.file source unit
+JobLadder Step command source unit = Then (IsPlain command) (λ plain. RunLadder command.file source unit)
+JobLadder Run command source unit = IsToCome
+JobLadder (Gen count) command source unit = IsToCome
 
 -- from a command to its findings
 abbrev pub CommandLadder : Command → (before after : FilesState) → Rung Findings → Type 0
 CommandLadder command before after =
     Then (IsSource before after command.file) (λ source.
     Then (SourceLadder command.file source) (λ unit.
-    JobLadder command.job command.file source unit))
+    JobLadder command.job command source unit))
 
 -- the whole ladder
 abbrev pub Ladder : List (List ℕ) → (before after : FilesState) → Rung Findings → Type 0

@@ -1,4 +1,4 @@
-pub mod Commands
+pub mod Served
 pub mod Causes
 pub mod Rungs
 pub mod Runs

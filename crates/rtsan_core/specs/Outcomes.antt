@@ -8,8 +8,8 @@ use Rattle.rtsan_core.specs.declared.finished.Finished.{Finished}
 use Rattle.rtsan_core.specs.declared.status.Outcome.{Outcome}
 use Rattle.rtsan_core.specs.declared.status.Status.{Status}
 use Rattle.rtsan_core.specs.declared.status.Status.TheVariants.{WriteFault}
-use Rattle.rtsan_core.specs.declared.words.Command.{Command}
-use Rattle.rtsan_core.specs.Commands.{command_of}
+use Rattle.command.specs.declared.command.Command.{Command}
+use Rattle.rtsan_core.specs.Served.{served_command}
 use Rattle.rtsan_core.specs.Causes.{Cause, OutOfMemory, status_of, line_of}
 use Rattle.rtsan_core.specs.Rungs.{Rung, Stops, GoesOn}
 use Rattle.rtsan_core.specs.Runs.{warned_status, run_status, run_text}
@@ -67,7 +67,7 @@ pub record IsUndisturbed (file : List ℕ) (before after : FilesState) (old new 
 -- so it is of the command of these words
 pub record IsCalm (words : List (List ℕ)) (before after : FilesState) (old new : SinkState) : Type 0 where
   pub command : Command
-  pub named : command_of words ≡ Some command
+  pub named : served_command words ≡ Some command
   pub undisturbed : IsUndisturbed command.file before after old new
 
 -- the outcome has the one answer of the ladder: wherever it may end, this was printed whole

@@ -8,9 +8,9 @@ use Rattle.rtsan_core.specs.declared.finished.Finished.{Finished}
 use Rattle.rtsan_core.specs.declared.status.Outcome.{Outcome}
 use Rattle.rtsan_core.specs.declared.status.Status.{Status}
 use Rattle.rtsan_core.specs.declared.status.Status.TheVariants.{Clean, Warned, Reported, Refused, Usage, ReadFault, WriteFault, NoMemory, Limit, Unlinked, Trapped, Stopped}
-use Rattle.rtsan_core.specs.declared.words.Command.{Command}
-use Rattle.rtsan_core.specs.declared.words.Job.TheVariants.{Step}
-use Rattle.rtsan_core.specs.Commands.{command_of}
+use Rattle.command.specs.declared.command.Command.{Command}
+use Rattle.command.specs.declared.command.Job.TheVariants.{Step}
+use Rattle.rtsan_core.specs.Served.{served_command, HasDefaults}
 use Rattle.rtsan_core.specs.Causes.{Cause, status_of, line_of}
 use Rattle.rtsan_core.specs.Rungs.{Rung, Stops, GoesOn}
 use Rattle.rtsan_core.specs.Runs.{IsFinished, has_trapped, has_stopped}
@@ -38,16 +38,16 @@ pub record IsStopped (ladder : Rung Findings → Type 0) (outcome : Outcome) (ol
 -- the words are a command, and the count of faults of its file rose
 pub record FileFailed (words : List (List ℕ)) (before after : FilesState) : Type 0 where
   pub command : Command
-  pub named : command_of words ≡ Some command
+  pub named : served_command words ≡ Some command
   pub rose : Rose (before.faults command.file) (after.faults command.file)
 
 -- the words are a command for a file of these contents, where they are told
 pub record HasSource (words : List (List ℕ)) (files : FilesState) (command : Command) (source : List ℕ) : Type 0 where
-  pub named : command_of words ≡ Some command
+  pub named : served_command words ≡ Some command
   pub contents : IsContents (files.contents command.file) source
 
 -- the source has no reading
-pub record IsRefused (words : List (List ℕ)) (files : FilesState) : Type 0 where
+pub record HasNoReading (words : List (List ℕ)) (files : FilesState) : Type 0 where
   pub command : Command
   pub source : List ℕ
   pub has : HasSource words files command source
@@ -56,12 +56,27 @@ pub record IsRefused (words : List (List ℕ)) (files : FilesState) : Type 0 whe
   pub status : status_of cause ≡ Refused
 
 -- the words are a command to run a file, which reads as this unit
-pub record RunsUnit (words : List (List ℕ)) (files : FilesState) (unit : UnitParts) : Type 0 where
-  pub command : Command
+pub record StepsUnit (words : List (List ℕ)) (files : FilesState) (command : Command) (unit : UnitParts) : Type 0 where
   pub steps : command.job ≡ Step
   pub source : List ℕ
   pub has : HasSource words files command source
   pub reads : SourceLadder command.file source (GoesOn unit)
+
+-- it has options that no run carries yet
+pub record HasOptions (words : List (List ℕ)) (files : FilesState) : Type 0 where
+  pub command : Command
+  pub unit : UnitParts
+  pub steps : StepsUnit words files command unit
+  pub options : HasDefaults command → ⊥
+
+abbrev pub IsRefused : List (List ℕ) → FilesState → Type 0
+IsRefused words files = HasNoReading words files ⊎ HasOptions words files
+
+-- it has none, so that the unit is run
+pub record RunsUnit (words : List (List ℕ)) (files : FilesState) (unit : UnitParts) : Type 0 where
+  pub command : Command
+  pub steps : StepsUnit words files command unit
+  pub plain : HasDefaults command
 
 -- the source is too long
 pub record HasLongSource (words : List (List ℕ)) (files : FilesState) : Type 0 where

@@ -8,8 +8,8 @@ ghost use Rattle.rtsan_core.specs.Outcomes.{IsOutcome, IsUndisturbed, HasTheAnsw
 use crate::printing::{print_refusal, print_warnings};
 use crate::reading::read_file;
 use crate::status::{Outcome, Status, ended};
-use crate::stepping::step_found;
-use crate::words::{Command, Job};
+use crate::stepping::step_command;
+use command::{Command, Job};
 use rt_base::{Files, Sink};
 use std::alloc::Global;
 
@@ -38,7 +38,8 @@ pub fn check_unit<F: Files, S: Sink>(
 }
 
 /// Warns, and runs the file of the command event by event, as one C thread from `main`: prints the warnings, the reports and
-/// the ending of the thread, or the line of the status. The command is one of `step`.
+/// the ending of the thread, or the line of the status. The command is one of `step`; with other options than the defaults it
+/// isn't run.
 pub fn step_unit<F: Files, S: Sink>(
     alloc: Global,
     command: &Command,
@@ -56,7 +57,7 @@ pub fn step_unit<F: Files, S: Sink>(
 {
     let file = command.file.as_str();
     match read_file(alloc, files, file) {
-        Ok(found) => step_found(alloc, out, file, &found),
+        Ok(found) => step_command(alloc, out, command, &found),
         Err(refusal) => ended(print_refusal(out, file, refusal)),
     }
 }

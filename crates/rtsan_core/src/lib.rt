@@ -6,14 +6,14 @@ mod ending;
 mod finished;
 mod printing;
 mod reading;
+mod served;
 mod serving;
 mod status;
 mod stepping;
-mod words;
 
+pub use command::{Command, Job, WordsFault, read_words};
 pub use commands::{check_unit, step_unit};
 pub use finished::{Ended, EndedList, Finished};
 pub use serving::{Gate, out_of_memory, serve};
 pub use status::{Outcome, Status};
 pub use stepping::law_one_run;
-pub use words::{Command, Job, WordsFault, read_words};

@@ -1,8 +1,9 @@
 //! The top call.
 
-ghost use Rattle.std.specs.Prelude.{◌≡◌, ◌≢◌, ◌≤◌, IfSome, None};
+ghost use Rattle.std.specs.Prelude.{◌≡◌, ◌≢◌, ◌≤◌, true, IfSome, None};
 ghost use Rattle.rt_base.specs.Outside.{Rose, KeepsContents};
-ghost use Rattle.rtsan_core.specs.Commands.{command_of, texts};
+ghost use Rattle.command.specs.Lines.{texts};
+ghost use Rattle.rtsan_core.specs.Served.{is_served, served_command};
 ghost use Rattle.rtsan_core.specs.Causes.{OutOfMemory};
 ghost use Rattle.rtsan_core.specs.Ladder.{Ladder, CommandLadder};
 ghost use Rattle.rtsan_core.specs.Outcomes.{IsOutcome, IsUndisturbed, IsCalm, HasTheAnswer, IsPrinted, answer_of};
@@ -10,8 +11,9 @@ ghost use Rattle.rtsan_core.specs.Rows.{HasLine, IsStopped, FileFailed, IsRefuse
 
 use crate::commands::{check_unit, step_unit};
 use crate::printing::{print_no_memory, print_usage};
+use crate::served::read_served;
 use crate::status::{Outcome, Status, ended};
-use crate::words::{Command, Job, WordsFault, read_words};
+use command::{Command, Job, WordsFault};
 use rt_base::{Files, Sink};
 use std::alloc::Global;
 use std::sync::Wait;
@@ -38,7 +40,7 @@ pub fn serve<R: Threads + Wait + Copy + Send + Sync, F: Files, S: Sink, G: Gate>
     ensures line { HasLine result.status →
         IsStopped (Ladder (texts words.now) (F.state files.old) (F.state files.new))
         result (S.state out.old) (S.state out.new) }
-    ensures usage { result.status ≡ Status.Usage → command_of (texts words.now) ≡ None }
+    ensures usage { result.status ≡ Status.Usage → served_command (texts words.now) ≡ None }
     ensures read_fault { result.status ≡ Status.ReadFault →
         FileFailed (texts words.now) (F.state files.old) (F.state files.new) }
     ensures write_fault { result.status ≡ Status.WriteFault →
@@ -76,7 +78,7 @@ fn answer_words<F: Files, S: Sink>(
         result (S.state out.old) (S.state out.new) }
     ensures files { KeepsContents (F.state files.old) (F.state files.new) }
 {
-    match read_words(alloc, words) {
+    match read_served(alloc, words) {
         Ok(command) => answer_command(alloc, &command, files, out),
         Err(WordsFault::Usage) => ended(print_usage(out)),
         Err(WordsFault::NoMemory) => ended(print_no_memory(out)),
@@ -90,6 +92,7 @@ fn answer_command<F: Files, S: Sink>(
     files: &mut F,
     out: &mut S,
 ) -> Outcome
+    requires { is_served command.now.job ≡ true }
     ensures outcome { IsOutcome (CommandLadder command.now (F.state files.old) (F.state files.new))
         result (S.state out.old) (S.state out.new) }
     ensures determined { IsUndisturbed command.now.file (F.state files.old) (F.state files.new)
@@ -101,6 +104,8 @@ fn answer_command<F: Files, S: Sink>(
     match command.job {
         Job::Check => check_unit(alloc, command, files, out),
         Job::Step => step_unit(alloc, command, files, out),
+        Job::Run => unreachable!(),
+        Job::Gen(_) => unreachable!(),
     }
 }
 

@@ -4,20 +4,21 @@ ghost use Rattle.std.specs.Prelude.{◌≡◌, [], ◌∷◌, length, IfOk};
 ghost use Rattle.std.specs.Option.{option_to_list};
 ghost use Rattle.built_model.specs.Follows.{Behaves};
 ghost use Rattle.built_reports.specs.Totals.{counted};
-ghost use Rattle.rtsan_core.specs.Ladder.{JobLadder};
+ghost use Rattle.rtsan_core.specs.Ladder.{JobLadder, RunLadder};
 ghost use Rattle.rtsan_core.specs.Runs.{IsFinished};
 ghost use Rattle.rtsan_core.specs.Found.{HasOneRun, IsReady, IsOnlyOutcome, ended_of};
 
 use crate::finished::{Ended, EndedList, Finished};
-use crate::printing::{ENTRY, print_no_memory, print_run, print_uncompiled};
-use crate::reading::Found;
+use crate::printing::{ENTRY, print_no_memory, print_refusal, print_run, print_uncompiled};
+use crate::reading::{Found, Refusal};
+use crate::served::has_defaults;
 use crate::status::{Outcome, ended};
-use crate::words::Job;
 use built_code::Code;
 use built_codegen::compile;
 use built_reports::collect_one;
 use built_run::{Ran, run_thread};
 use built_unit::Unit;
+use command::{Command, Job};
 use rt_base::Sink;
 use std::alloc::{AllocError, Global};
 
@@ -26,10 +27,28 @@ pub fn law_one_run(unit: &Unit)
     ensures { HasOneRun unit.now }
 {}
 
-/// Runs the unit that was found, and prints its warnings, its reports and its ending, or why it can't be run.
-pub fn step_found<S: Sink>(alloc: Global, out: &mut S, file: &str, found: &Found) -> Outcome
+/// Does a `step` of the unit that was found, where its options are the defaults.
+pub fn step_command<S: Sink>(
+    alloc: Global,
+    out: &mut S,
+    command: &Command,
+    found: &Found,
+) -> Outcome
     requires { IsReady found.now }
-    ensures { IsOnlyOutcome (JobLadder Job.Step file.now found.now.source found.now.unit) result (S.state out.old) (S.state out.new) }
+    ensures { IsOnlyOutcome (JobLadder Job.Step command.now found.now.source found.now.unit) result (S.state out.old) (S.state out.new) }
+{
+    let file = command.file.as_str();
+    if has_defaults(command) {
+        step_found(alloc, out, file, found)
+    } else {
+        ended(print_refusal(out, file, Refusal::NotBuilt))
+    }
+}
+
+/// Runs the unit that was found, and prints its warnings, its reports and its ending, or why it can't be run.
+fn step_found<S: Sink>(alloc: Global, out: &mut S, file: &str, found: &Found) -> Outcome
+    requires { IsReady found.now }
+    ensures { IsOnlyOutcome (RunLadder file.now found.now.source found.now.unit) result (S.state out.old) (S.state out.new) }
 {
     let code = match compile(alloc, &found.unit, ENTRY) {
         Ok(code) => code,

@@ -5,16 +5,14 @@ use Rattle.rtsan_core.proofs.commands.step_unit.Goals as goal
 pub returns-in-Ok-clause-outcome : goal.returns-in-Ok-clause-outcome
 returns-in-Ok-clause-outcome g c =
     let found = rw c.as_str-file.ensures at c.in-Ok.ensures.found in
-    let stepped = rw c.as_str-file.ensures at c.step_found.ensures in
     commanded c.args.command.now (g.F.Files.state c.args.files.now) (g.F.Files.state c.read_file.new.files) c.in-Ok.found.source _ _ _ found.contents
-    (step_told c.args.command.now.job c.args.command.now.file c.in-Ok.found.source c.in-Ok.found.unit _ _ _ c.requires found.unit stepped)
+    (step_told c.args.command.now.job c.args.command.now c.in-Ok.found.source c.in-Ok.found.unit _ _ _ c.requires found.unit c.step_command.ensures)
 
 pub returns-in-Ok-clause-determined : goal.returns-in-Ok-clause-determined
 returns-in-Ok-clause-determined g c =
     let found = rw c.as_str-file.ensures at c.in-Ok.ensures.found in
-    let stepped = rw c.as_str-file.ensures at c.step_found.ensures in
     determined c.args.command.now (g.F.Files.state c.args.files.now) (g.F.Files.state c.read_file.new.files) c.in-Ok.found.source _ _ _ found.contents
-    (step_told c.args.command.now.job c.args.command.now.file c.in-Ok.found.source c.in-Ok.found.unit _ _ _ c.requires found.unit stepped)
+    (step_told c.args.command.now.job c.args.command.now c.in-Ok.found.source c.in-Ok.found.unit _ _ _ c.requires found.unit c.step_command.ensures)
 
 pub returns-in-Err-clause-outcome : goal.returns-in-Err-clause-outcome
 returns-in-Err-clause-outcome g c =

@@ -1,5 +1,5 @@
 -- Each row follows from where the ladder ended.
-use Rattle.rtsan_core.specs.Commands.{texts}
+use Rattle.command.specs.Lines.{texts}
 use Rattle.rtsan_core.specs.declared.status.Status.TheVariants.{Refused, Usage, ReadFault, WriteFault, Limit, Unlinked}
 use Rattle.rtsan_core.proofs.Stops.{row, line_alone}
 use Rattle.rtsan_core.proofs.Endings.{reported_row, trapped_row, stopped_row, left_runs, sink_later}
