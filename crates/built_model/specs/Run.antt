@@ -8,7 +8,7 @@ use Rattle.built_code.specs.declared.events.Finish.{Finish}
 use Rattle.built_code.specs.declared.events.Finish.TheVariants.{Returned as FinishReturned, Exited as FinishExited, Trapped as FinishTrapped, Halted as FinishHalted}
 use Rattle.built_code.specs.Words.{halt}
 use Rattle.built_code.specs.Machine.{Program, Machine, machine_after, started, cut_short}
-use Rattle.built_model.specs.declared.limits.TheConstants.{EVENT_LIMIT, WAIT_LIMIT}
+use Rattle.command.specs.declared.limits.TheConstants.{EVENT_LIMIT, WAIT_LIMIT}
 use Rattle.built_model.specs.declared.runs.Made.{Made}
 use Rattle.built_model.specs.declared.runs.End.{End}
 use Rattle.built_model.specs.declared.runs.End.TheVariants.{Returned, Exited, Trapped, Halted, Stopped}

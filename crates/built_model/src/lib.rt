@@ -2,9 +2,7 @@
 #![tactic(auto)]
 
 mod laws;
-mod limits;
 mod runs;
 
 pub use laws::law_one_event;
-pub use limits::{EVENT_LIMIT, WAIT_LIMIT};
 pub use runs::{End, Made, Trace};

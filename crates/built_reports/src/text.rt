@@ -9,9 +9,10 @@ ghost use Rattle.c_text.specs.declared.limits.TheConstants.{SOURCE_LIMIT};
 
 use crate::stacks::{StackCount, StackList};
 use built_code::TrapKind;
-use built_model::{EVENT_LIMIT, End, WAIT_LIMIT};
+use built_model::End;
 use built_unit::Unit;
 use c_text::line_column;
+use command::{EVENT_LIMIT, WAIT_LIMIT};
 use ctx_set::StackStep;
 use eff_text::write_pieces;
 use itoa::Buffer;

@@ -15,8 +15,9 @@ use crate::context::Context;
 use crate::memory::Memory;
 use built_code::words::HALT;
 use built_code::{Ask, Code, Finish, Thread};
-use built_model::{EVENT_LIMIT, End, Made, Trace};
+use built_model::{End, Made, Trace};
 use built_unit::Unit;
+use command::EVENT_LIMIT;
 use ctx_set::StepList;
 use std::alloc::{AllocError, Global};
 

@@ -6,6 +6,7 @@ use Rattle.command.specs.declared.settings.Limits.{Limits}
 use Rattle.command.specs.declared.settings.Lists.{Lists}
 use Rattle.command.specs.Forms.{number_within, argument_of, is_identifier}
 use Rattle.command.specs.Lists.{list_of}
+use Rattle.command.specs.declared.limits.TheConstants.{EVENT_LIMIT, WAIT_LIMIT}
 
 abbrev pub Pairs : Type 0
 Pairs = List (List ℕ × List ℕ)
@@ -48,8 +49,8 @@ abbrev pub limits_in : Pairs → Option Limits
 limits_in given = option_and_then (λ events. option_and_then (λ wait_limit. option_map (λ workers.
     record { events = events; wait_limit = wait_limit; workers = workers })
     (setting (codes "--workers") 4 (number_within 1 8) given))
-    (setting (codes "--wait-limit") 2000000 (number_within 1 4294967295) given))
-    (setting (codes "--events") 10000000 (number_within 1 4294967295) given)
+    (setting (codes "--wait-limit") WAIT_LIMIT (number_within 1 4294967295) given))
+    (setting (codes "--events") EVENT_LIMIT (number_within 1 4294967295) given)
 
 abbrev pub lists_in : Pairs → Option Lists
 lists_in given = option_and_then (λ args. option_map (λ schedule. record { args = args; schedule = schedule })

@@ -9,6 +9,7 @@ ghost use Rattle.command.specs.Readings.{IsRefusal, IsReading};
 
 use crate::fault::WordsFault;
 use crate::forms::{is_identifier, number_within};
+use crate::limits::{EVENT_LIMIT, WAIT_LIMIT};
 use crate::line::Given;
 use crate::lists::{ArgList, NumberList};
 use crate::text::Text;
@@ -111,8 +112,8 @@ pub(crate) fn read_texts(alloc: Global, given: &[Given]) -> Result<Texts, WordsF
 pub(crate) fn read_limits(given: &[Given]) -> Result<Limits, WordsFault>
     ensures { IsReading (limits_in (pairs given.now)) result }
 {
-    let events = number_setting("--events", 10_000_000, u32::MAX, given)?;
-    let wait_limit = number_setting("--wait-limit", 2_000_000, u32::MAX, given)?;
+    let events = number_setting("--events", EVENT_LIMIT, u32::MAX, given)?;
+    let wait_limit = number_setting("--wait-limit", WAIT_LIMIT, u32::MAX, given)?;
     let workers = number_setting("--workers", 4, 8, given)?;
     Ok(Limits {
         events,

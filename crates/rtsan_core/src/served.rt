@@ -5,7 +5,7 @@ ghost use Rattle.command.specs.Lines.{texts};
 ghost use Rattle.command.specs.Readings.{IsReading};
 ghost use Rattle.rtsan_core.specs.Served.{is_served, served_command, HasDefaults};
 
-use command::{Command, Job, WordsFault, read_words};
+use command::{Command, EVENT_LIMIT, Job, WAIT_LIMIT, WordsFault, read_words};
 use std::alloc::Global;
 
 /// The command that the words are, where they are one and it is served.
@@ -52,8 +52,8 @@ pub fn has_defaults(command: &Command) -> bool
     if !command.schedule.as_slice().is_empty() {
         return false;
     }
-    if command.events != 10_000_000 {
+    if command.events != EVENT_LIMIT {
         return false;
     }
-    command.wait_limit == 2_000_000
+    command.wait_limit == WAIT_LIMIT
 }
