@@ -5,18 +5,10 @@
 #[cfg(test)]
 mod effects;
 #[cfg(test)]
-mod machine;
-#[cfg(test)]
 mod outside;
-#[cfg(test)]
-mod printed;
 #[cfg(test)]
 mod shortest_chains;
 #[cfg(test)]
 mod suppressions;
 #[cfg(test)]
 mod typedef_names;
-#[cfg(test)]
-mod units;
-#[cfg(test)]
-mod warnings;

@@ -1,11 +1,7 @@
-//! Tests of what is answered to whole files, as tables: their spelling, their trees, and the commands that read them.
+//! Tests of what is read of whole files, as tables: their spelling and their trees.
 #![tactic(auto)]
 
 #[cfg(test)]
 mod parse;
 #[cfg(test)]
-mod serve;
-#[cfg(test)]
 mod source;
-#[cfg(test)]
-mod words;
