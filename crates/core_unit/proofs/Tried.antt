@@ -248,7 +248,15 @@ tables = record { functions = []; structures = ring_info ∷ []; statics = []; t
 -- r->head = r->head + 1; is typed.
 pointer_is_typed : IsTyped tables (value 0 ring)
 unfolding IsTyped IsWithin words_of place_type hidden hidden-the_row-Expr-0 shape-the_row-Expr-0 hidden-the_row-Place-1 shape-the_row-Place-1 hidden-the_row-Expr-2 shape-the_row-Expr-2 hidden-the_row-Stmt-0 shape-the_row-Stmt-0 hidden-the_row-Stmt-1 shape-the_row-Stmt-1 hidden-the_row-Initializer-0 shape-the_row-Initializer-0
-pointer_is_typed = ((omega arith, record { index = 0; object = object 0 1; known = refl; begins = refl; long = refl; some = omega arith }), refl)
+pointer_is_typed = (
+  record {
+    within = omega arith;
+    words = 1;
+    there = record { index = 0; object = object 0 1; known = refl; begins = refl; long = refl; some = omega arith };
+    long = λ sized. refl;
+  },
+  refl,
+)
 
 head_is_typed : IsTypedPlace tables (member 64 Unsigned)
 unfolding IsTyped words_of place_type points_to hidden hidden-the_row-Expr-0 shape-the_row-Expr-0 hidden-the_row-Place-1 shape-the_row-Place-1 hidden-the_row-Expr-2 shape-the_row-Expr-2 hidden-the_row-Stmt-0 shape-the_row-Stmt-0 hidden-the_row-Stmt-1 shape-the_row-Stmt-1 hidden-the_row-Initializer-0 shape-the_row-Initializer-0

@@ -1,5 +1,5 @@
 -- What typing asks of types.
-use Rattle.std.specs.Prelude.{ℕ, Bool, true, false, not, ◌&&◌, ◌||◌, Option, Some, None}
+use Rattle.std.specs.Prelude.{ℕ, ◌==◌, Bool, true, false, not, ◌&&◌, ◌||◌, Option, Some, None}
 use Rattle.eff_types.specs.Types.{is_number, is_void, is_function, points_to}
 use Rattle.eff_types.specs.declared.levels.Level.{Level}
 use Rattle.eff_types.specs.declared.levels.Level.TheVariants.{Plain}
@@ -51,6 +51,11 @@ array_of t n = Array' _ (more_of-CType t end_of-CType) n
 abbrev pub is_array : CType → Bool
 is_array (Array' _ _ _) = true
 is_array _ = false
+
+-- an array without a size, which has size 0
+abbrev pub is_unsized : CType → Bool
+is_unsized (Array' _ _ n) = n == 0
+is_unsized _ = false
 
 abbrev pub is_pointer : CType → Bool
 is_pointer (Pointer' _ _) = true

@@ -7,7 +7,7 @@ use Rattle.eff_types.specs.declared.types.CType.{CType, Void, Char, Mutex, Struc
 use Rattle.eff_types.specs.declared.types.FnType.{FnType}
 use Rattle.core_unit.specs.Layout.{words_of, members_words}
 use Rattle.core_unit.specs.Library.{row_types}
-use Rattle.core_unit.specs.Shapes.{function_in, target_of, array_of, is_array, is_pointer, is_scalar, is_promoted, is_object_pointer, is_aggregate, pointer_to, number_type, sign_of}
+use Rattle.core_unit.specs.Shapes.{function_in, target_of, array_of, is_array, is_unsized, is_pointer, is_scalar, is_promoted, is_object_pointer, is_aggregate, pointer_to, number_type, sign_of}
 use Rattle.core_unit.specs.Stores.{stores}
 use Rattle.core_unit.specs.Structures.{IsWithin, member_types}
 use Rattle.core_unit.specs.Typing.{type_of, place_type, called_as, on_side}
@@ -73,9 +73,13 @@ where_in (Automatic offset) = offset
 where_in (Static address) = address
 where_in (ThreadLocal offset) = offset
 
--- A variable of this type is kept there. The type speaks of structures of the table.
-abbrev pub IsKept : Tables → Storage → CType → Type 0
-IsKept u storage t = IsWithin (length u.structures) t × IsObject (objects_of u storage) (where_in storage) (words_of u.structures t)
+-- A variable of this type is kept there, in an object of its words. The type speaks of structures of the table. An array that has no size yet,
+-- as inside its own initializer, is kept in the object that it is to have (C17 6.7.9).
+pub record IsKept (u : Tables) (storage : Storage) (t : CType) : Type 0 where
+  pub within : IsWithin (length u.structures) t
+  pub words : ℕ
+  pub there : IsObject (objects_of u storage) (where_in storage) words
+  pub long : is_unsized t ≡ false → words ≡ words_of u.structures t
 
 -- The name of a function with this static type: the function's own type, but that the level of the name is at most the function's, and that its
 -- flags are free.

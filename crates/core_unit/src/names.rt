@@ -28,6 +28,17 @@ impl Name {
         Ok(Name { text })
     }
 
+    /// The name with these bytes. The one error is that no memory is left; bytes that are no UTF-8 text, which no identifier is
+    /// (C17 6.4.2.1), are answered so too.
+    pub fn from_bytes(alloc: Global, bytes: &[u8]) -> Result<Name, AllocError>
+        ensures { IfOk result (λ name. name ≡ bytes.now) }
+    {
+        match str::from_utf8(bytes) {
+            Ok(text) => Name::new(alloc, text),
+            Err(_) => Err(AllocError),
+        }
+    }
+
     /// The text of the name.
     pub fn as_str(&self) -> &str
         ensures { result.now ≡ self.now }
