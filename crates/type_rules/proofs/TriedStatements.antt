@@ -1,5 +1,5 @@
 -- Statements, tried.
-use Rattle.std.proofs.Common.{◌≡◌, refl, ℕ, [], ◌∷◌, Some, None, Result, Ok, Err}
+use Rattle.std.proofs.Common.{◌≡◌, true, refl, ℕ, [], ◌∷◌, Some, None, Result, Ok, Err}
 use Prim.Native.String.{String}
 use Rattle.eff_types.specs.declared.types.CType.{Void}
 use Rattle.c_tree.specs.declared.expressions.AssignmentOperator.TheVariants as assign
@@ -55,10 +55,10 @@ told (Bad number place) = Err (number, place)
 
 -- in a function whose result is an `int`, and in one without a result
 abbrev read_in : String → Stmt → Result ℕ (ℕ × ℕ)
-read_in source t = told (statement t (opening source))
+read_in source t = told (statement true t (opening source))
 
 abbrev read_without_result : String → Stmt → Result ℕ (ℕ × ℕ)
-read_without_result source t = told (statement t (record (opening source) { result = Void }))
+read_without_result source t = told (statement true t (record (opening source) { result = Void }))
 
 -- statements, by their nodes
 statements :

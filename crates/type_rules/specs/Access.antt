@@ -19,20 +19,27 @@ use Rattle.core_unit.specs.declared.tables.StructInfo.{StructInfo}
 use Rattle.type_rules.specs.declared.found.Found.{Found}
 use Rattle.type_rules.specs.declared.found.Form.{Form}
 use Rattle.type_rules.specs.declared.found.Form.TheVariants.{Lvalue, Value}
-use Rattle.type_rules.specs.Operands.{Operand, operand, found_object, found_value, promoted}
-use Rattle.type_rules.specs.Operators.{Pair, PointerFirst, PointerSecond, pair_of, stride}
+use Rattle.type_rules.specs.declared.found.Operand.{Operand}
+use Rattle.type_rules.specs.declared.found.Pair.{Pair}
+use Rattle.type_rules.specs.declared.found.Pair.TheVariants.{PointerFirst, PointerSecond}
+use Rattle.type_rules.specs.Operands.{operand, found_object, found_value, promoted}
+use Rattle.type_rules.specs.Operators.{pair_of, stride}
 use Rattle.type_rules.specs.Reading.{Rule, Good, and_then, gives, fails, refused, seen, text_of, ◌>>=◌, ◌>>◌}
 use Rattle.type_rules.specs.Seen.{Seen}
 use Rattle.type_rules.specs.Sizes.{size_of}
 use Rattle.type_rules.specs.Types.{is_incomplete}
 
 -- `*` (C17 6.5.3.2): of a pointer to an object, which it designates, or of a pointer to a function. `void` is no object.
-unfoldable pub indirection : ℕ → Rule Found → Rule Found
-indirection place expression = do
-  o ← operand expression
+abbrev pub indirection_of : ℕ → Operand → Rule Found
+indirection_of place o = do
   refused (not (is_object_pointer o.kind || is_function_pointer o.kind)) 3 place
   gives (if is_function_pointer o.kind then found_value place (target_of o.kind) (expr.TargetFunction o.node)
       else found_object place (target_of o.kind) (object.Indirection o.node (target_of o.kind)))
+
+unfoldable pub indirection : ℕ → Rule Found → Rule Found
+indirection place expression = do
+  o ← operand expression
+  indirection_of place o
 
 -- `a[i]` is `*(a + i)` (C17 6.5.2.1), so either may be the pointer.
 abbrev pub element_as : ℕ → Operand → Operand → Pair → Rule Found
@@ -44,11 +51,14 @@ element_as place a b PointerSecond = do
   gives (found_object place (target_of b.kind) (object.Element (promoted a).node b.node Right words (target_of b.kind)))
 element_as place a b _ = fails 3 place
 
+abbrev pub element_by : ℕ → Operand → Operand → Rule Found
+element_by place a b = element_as place a b (pair_of a.kind b.kind)
+
 unfoldable pub element : ℕ → Rule Found → Rule Found → Rule Found
 element place array index = do
   a ← operand array
   b ← operand index
-  element_as place a b (pair_of a.kind b.kind)
+  element_by place a b
 
 -- A member of a structure of which the first token of the whole expression stands at `place` (C17 6.5.2.3).
 abbrev pub member_at : ℕ → Place → List StructInfo → List MemberInfo → ℕ → Option MemberInfo → ℕ → Rule Found

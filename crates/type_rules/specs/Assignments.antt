@@ -16,9 +16,12 @@ use Rattle.core_unit.specs.declared.operators.Update.{Update}
 use Rattle.core_unit.specs.declared.operators.Update.TheVariants as update
 use Rattle.type_rules.specs.Conversions.{converted}
 use Rattle.type_rules.specs.declared.found.Found.{Found}
-use Rattle.type_rules.specs.Operands.{Operand, operand, found_value, promoted, in_sign, is_whole, lvalue}
+use Rattle.type_rules.specs.declared.found.Operand.{Operand}
+use Rattle.type_rules.specs.declared.found.Pair.{Pair}
+use Rattle.type_rules.specs.declared.found.Pair.TheVariants.{PointerFirst, PointerSecond, Pointers}
+use Rattle.type_rules.specs.Operands.{operand, found_value, promoted, in_sign, is_whole, lvalue}
 use Rattle.core_unit.specs.Typed.{common}
-use Rattle.type_rules.specs.Operators.{Pair, PointerFirst, PointerSecond, Pointers, pair_of, stride}
+use Rattle.type_rules.specs.Operators.{pair_of, stride}
 use Rattle.type_rules.specs.Reading.{Rule, gives, fails, refused, ◌>>=◌, ◌>>◌}
 
 -- `=`: of a scalar that is designated, to which the right side converts.
@@ -98,10 +101,13 @@ assigned_by place written.ExclusiveOr left o = compound_assignment place arithme
 assigned_by place written.Or left o = compound_assignment place arithmetic.Or left o
 
 -- A structure or a mutex on the left is refused before the right side is read.
+abbrev pub left_side : Found → Rule (Unit {0})
+left_side left = refused (is_whole left.kind) 3 left.place
+
 unfoldable pub assignment : ℕ → AssignmentOperator → Rule Found → Rule Found → Rule Found
 assignment place operator left_read right_read = do
   left ← left_read
-  refused (is_whole left.kind) 3 left.place
+  left_side left
   o ← operand right_read
   assigned_by place operator left o
 
@@ -127,9 +133,13 @@ stepped_as place operator Postfix f = do
   how ← step_update place operator f.kind
   gives (found_value place f.kind (expr.Step target how Postfix))
 
-unfoldable pub step : ℕ → ArithmeticOperator → StepValue → Rule Found → Rule Found
-step place operator value expression = do
-  f ← expression
+abbrev pub stepped : ℕ → ArithmeticOperator → StepValue → Found → Rule Found
+stepped place operator value f = do
   refused (is_whole f.kind) 3 f.place
   refused (not (is_stepped f.kind)) 3 place
   stepped_as place operator value f
+
+unfoldable pub step : ℕ → ArithmeticOperator → StepValue → Rule Found → Rule Found
+step place operator value expression = do
+  f ← expression
+  stepped place operator value f

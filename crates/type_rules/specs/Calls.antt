@@ -12,7 +12,8 @@ use Rattle.type_rules.specs.Conversions.{converted}
 use Rattle.type_rules.specs.declared.found.Found.{Found}
 use Rattle.type_rules.specs.declared.found.Form.{Form}
 use Rattle.type_rules.specs.declared.found.Form.TheVariants.{Lvalue, Value}
-use Rattle.type_rules.specs.Operands.{Operand, operand_of, as_value, found_value, is_whole}
+use Rattle.type_rules.specs.declared.found.Operand.{Operand}
+use Rattle.type_rules.specs.Operands.{operand_of, as_value, found_value, is_whole}
 use Rattle.type_rules.specs.Reading.{Rule, gives, fails, refused, ◌>>=◌, ◌>>◌}
 
 -- The calls at whose first token an expression begins. Sites are numbered in the order of the first tokens of the calls, and of two calls that
@@ -37,11 +38,15 @@ unfoldable pub callee_in : ℕ → CType → Form → Found → Operand
 callee_in place kind (Value node) f = if is_function kind then operand_of place kind node else as_value f
 callee_in place kind (Lvalue object) f = as_value f
 
+abbrev pub as_callee : Found → Rule Operand
+as_callee f = do
+  refused (is_whole f.kind) 3 f.place
+  gives (callee_in f.place f.kind f.form f)
+
 unfoldable pub callee : Rule Found → Rule Operand
 callee expression = do
   f ← expression
-  refused (is_whole f.kind) 3 f.place
-  gives (callee_in f.place f.kind f.form f)
+  as_callee f
 
 -- the arguments, each in the type of its parameter, from the left
 unfoldable pub passed : List CType → List Operand → Rule (List Expr)
@@ -52,15 +57,18 @@ passed (t ∷ ts) (o ∷ os) = do
 passed _ _ = gives []
 
 -- All arguments are typed; then it is asked whether a function is called, how many arguments it takes, and of each its conversion.
-abbrev pub called_by : ℕ → ℕ → Operand → List Operand → Option FnType → Rule Found
-called_by place site f given (Some t) = do
+abbrev pub called_by : ℕ → ℕ → Expr → List Operand → Option FnType → Rule Found
+called_by place site function given (Some t) = do
   refused (not (length t.params == length given)) 5 place
   arguments ← passed t.params given
-  gives (found_value place t.result (expr.Call place site f.node arguments))
-called_by place site f given None = fails 3 place
+  gives (found_value place t.result (expr.Call place site function arguments))
+called_by place site function given None = fails 3 place
+
+abbrev pub called : ℕ → ℕ → Operand → List Operand → Rule Found
+called place site f given = called_by place site f.node given (called_as f.node f.kind)
 
 unfoldable pub call : ℕ → ℕ → Rule Found → Rule (List Operand) → Rule Found
 call place site function arguments = do
   f ← callee function
   given ← arguments
-  called_by place site f given (called_as f.node f.kind)
+  called place site f given

@@ -15,15 +15,13 @@ use Rattle.core_unit.specs.declared.words.Word.{Word}
 use Rattle.core_unit.specs.declared.words.Word.TheVariants.{Zero}
 use Rattle.type_rules.specs.declared.found.Found.{Found}
 use Rattle.type_rules.specs.declared.found.Constant.{Constant}
-use Rattle.type_rules.specs.Operands.{Operand, operand}
+use Rattle.type_rules.specs.declared.found.Operand.{Operand}
+use Rattle.type_rules.specs.declared.found.Worth.{Worth}
+use Rattle.type_rules.specs.declared.found.Worth.TheVariants.{Known, Trapped, Varying}
+use Rattle.type_rules.specs.Operands.{operand}
 use Rattle.type_rules.specs.Reading.{Rule, gives, refused, ◌>>=◌, ◌>>◌}
 
--- What an expression is worth: a word, nothing since its evaluation traps, or what only the running program tells.
-pub data Worth : Type 0 where
-  Known : Word → Worth
-  Trapped : Worth
-  Varying : Worth
-
+-- Evaluation gives a word, or traps.
 abbrev pub outcome : Result Word TrapKind → Worth
 outcome (Ok value) = Known value
 outcome (Err trap) = Trapped

@@ -13,7 +13,8 @@ use Rattle.core_unit.specs.declared.operators.Cause.{Cause}
 use Rattle.core_unit.specs.declared.operators.Cause.TheVariants as cause
 use Rattle.type_rules.specs.Constants.{is_null_constant}
 use Rattle.type_rules.specs.declared.found.Found.{Found}
-use Rattle.type_rules.specs.Operands.{Operand, operand, turned, found_value}
+use Rattle.type_rules.specs.declared.found.Operand.{Operand}
+use Rattle.type_rules.specs.Operands.{operand, turned, found_value}
 use Rattle.type_rules.specs.Reading.{Rule, gives, fails, warned, ◌>>=◌, ◌>>◌}
 use Rattle.type_rules.specs.declared.notes.TypeWarning.TheVariants as warning
 

@@ -11,7 +11,7 @@ use Rattle.eff_types.specs.declared.types.CType.{CType}
 use Rattle.eff_types.specs.declared.types.FnType.{FnType}
 use Rattle.core_unit.specs.Layout.{words_of}
 use Rattle.core_unit.specs.Typed.{where_in}
-use Rattle.core_unit.specs.Shapes.{function_in, element_of, array_of}
+use Rattle.core_unit.specs.Shapes.{function_in, element_of, array_of, is_unsized}
 use Rattle.core_unit.specs.declared.body.Initializer.{Initializer}
 use Rattle.core_unit.specs.declared.body.Initializer.TheVariants as init
 use Rattle.core_unit.specs.declared.body.Stmt.{Stmt}
@@ -29,7 +29,7 @@ use Rattle.type_rules.specs.declared.names.Entity.{Entity}
 use Rattle.type_rules.specs.declared.names.Entity.TheVariants.{Variable, Function, TypeName}
 use Rattle.type_rules.specs.Specifiers.{Specifiers, no_specifiers}
 use Rattle.type_rules.specs.Storage.{Duration, IsAutomatic, IsStatic, IsThreadLocal, kept_for, initially}
-use Rattle.type_rules.specs.Types.{is_incomplete, is_unsized}
+use Rattle.type_rules.specs.Types.{is_incomplete}
 use Rattle.c_tree.specs.declared.expressions.Spec.{Spec}
 
 abbrev pub all_specifiers : List Spec → Specifiers → Rule Specifiers

@@ -8,7 +8,7 @@ use Rattle.eff_types.specs.Effects.{union, conflict}
 use Rattle.eff_types.specs.Types.{is_function}
 use Rattle.eff_types.specs.declared.types.CType.{CType}
 use Rattle.eff_types.specs.declared.types.CType.TheVariants as a_type
-use Rattle.core_unit.specs.Shapes.{is_scalar, pointer_to, array_of}
+use Rattle.core_unit.specs.Shapes.{is_scalar, pointer_to, array_of, is_unsized}
 use Rattle.core_unit.specs.declared.expressions.Storage.TheVariants.{Automatic}
 use Rattle.core_unit.specs.declared.operators.Sign.{Sign}
 use Rattle.core_unit.specs.declared.operators.Sign.TheVariants.{Signed, Unsigned as Without}
@@ -18,24 +18,13 @@ use Rattle.type_rules.specs.Constants.{number_constant}
 use Rattle.type_rules.specs.declared.found.Found.{Found}
 use Rattle.type_rules.specs.Reading.{Rule, Good, ◌>>=◌, ◌>>◌, gives, refused, seen, scoped, name_number, meaning_here, declared}
 use Rattle.type_rules.specs.declared.names.Entity.TheVariants.{Variable}
+pub use Rattle.type_rules.specs.declared.declarators.Made.{Made}
+pub use Rattle.type_rules.specs.declared.declarators.Parameter.{Parameter}
+pub use Rattle.type_rules.specs.declared.declarators.Part.{Part}
+pub use Rattle.type_rules.specs.declared.declarators.Part.TheVariants.{PointerTo, ArrayOf, FunctionOf}
+pub use Rattle.type_rules.specs.declared.declarators.Shape.{Shape}
 use Rattle.type_rules.specs.Specifiers.{Specifiers, base_type, spelling}
-use Rattle.type_rules.specs.Types.{is_incomplete, is_unsized, is_result, adjusted, says_noreturn, effects_in, outermost_effects, attributed, lacks_function, conflicts_with}
-
--- a parameter: its name by number, if it has one, and its adjusted type
-pub record Parameter : Type 0 where
-  pub name : Option ℕ
-  pub kind : CType
-
--- What stands around a declared name: it is a pointer, an array (without a size: 0), or a function.
-pub data Part : Type 0 where
-  PointerTo : Part
-  ArrayOf : ℕ → Part
-  FunctionOf : List Parameter → List Attr → Part
-
--- A declarator as read: its name, if it has one, and its parts from the name outwards.
-pub record Shape : Type 0 where
-  pub name : Option Span
-  pub parts : List Part
+use Rattle.type_rules.specs.Types.{is_incomplete, is_result, adjusted, says_noreturn, effects_in, outermost_effects, attributed, lacks_function, conflicts_with}
 
 abbrev pub bare : Option Span → Shape
 bare name = record { name = name; parts = [] }
@@ -125,24 +114,14 @@ abbrev pub is_own_noreturn : List Part → Bool
 is_own_noreturn [] = false
 is_own_noreturn (p ∷ ps) = part_is_noreturn p
 
+abbrev pub part_parameters : Part → Option (List Parameter)
+part_parameters (FunctionOf ps attributes) = Some ps
+part_parameters _ = None
+
 -- The parameters of the name's own list, where the declarator makes the name a function by one.
 abbrev pub own_parameters : List Part → Option (List Parameter)
-own_parameters (FunctionOf ps attributes ∷ parts) = Some ps
-own_parameters _ = None
-
--- What specifiers and a declarator make of a name together.
-pub record Made : Type 0 where
-  -- where its faults are named
-  pub place : ℕ
-  -- an array without a size has size 0
-  pub kind : CType
-  -- it is said not to return
-  pub noreturn : Bool
-  pub parameters : Option (List Parameter)
-  -- type mismatch, effects conflict, incomplete type
-  pub mistyped : Bool
-  pub conflicting : Bool
-  pub incomplete : Bool
+own_parameters [] = None
+own_parameters (p ∷ parts) = part_parameters p
 
 abbrev pub all_noreturn : Specifiers → Shape → Bool
 all_noreturn b d = b.is_noreturn || says_noreturn b.attributes || is_own_noreturn d.parts
@@ -173,13 +152,13 @@ faults redefined mistyped conflicting incomplete place = do
   refused conflicting 4 place
   refused incomplete 10 place
 
+abbrev pub start_or : Option Span → ℕ → ℕ
+start_or (Some name) place = name.start
+start_or None place = place
+
 -- where a fault of a declarator is named: at its name, or at the first token of the parameter or type name without one
 abbrev pub anchor : Shape → ℕ → ℕ
-anchor d place = of d.name
-  where
-    of : Option Span → ℕ
-    of (Some name) = name.start
-    of None = place
+anchor d place = start_or d.name place
 
 -- Parameters (C17 6.7.6.3): numbers and pointers, no two of one name.
 abbrev pub parameter_declared : Option Span → Made → List Parameter → Rule (List Parameter)

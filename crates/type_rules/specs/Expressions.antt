@@ -10,7 +10,8 @@ use Rattle.core_unit.specs.declared.operators.UnaryOperator.TheVariants as unary
 use Rattle.type_rules.specs.Access.{address, indirection, size_of_expression}
 use Rattle.type_rules.specs.Assignments.{step}
 use Rattle.type_rules.specs.declared.found.Found.{Found}
-use Rattle.type_rules.specs.Operands.{Operand, operand}
+use Rattle.type_rules.specs.declared.found.Operand.{Operand}
+use Rattle.type_rules.specs.Operands.{operand}
 use Rattle.type_rules.specs.Operators.{sign_operation, negation}
 use Rattle.type_rules.specs.Reading.{Rule, ◌>>=◌}
 

@@ -12,8 +12,9 @@ use Rattle.eff_types.specs.declared.types.FnType.{FnType}
 use Rattle.core_unit.specs.declared.body.Stmt.{Stmt}
 use Rattle.core_unit.specs.declared.expressions.Storage.TheVariants.{Automatic}
 use Rattle.core_unit.specs.declared.tables.FunctionInfo.{FunctionInfo}
-use Rattle.type_rules.specs.Declarators.{Made, Parameter, faults}
+use Rattle.type_rules.specs.Declarators.{Parameter, faults}
 use Rattle.type_rules.specs.Reading.{Rule, Good, ◌>>=◌, ◌>>◌, gives, fails, seen, scoped, declared, warned, text_of, changes}
+pub use Rattle.type_rules.specs.declared.declarators.FunctionDeclaration.{FunctionDeclaration}
 use Rattle.type_rules.specs.declared.names.Entity.{Entity}
 use Rattle.type_rules.specs.declared.names.Entity.TheVariants.{Variable, Function}
 use Rattle.type_rules.specs.declared.notes.TypeWarning.TheVariants.{Redeclaration}
@@ -37,17 +38,6 @@ marked marks number e = if list_any (nat_eq number) marks then record e { level 
 
 abbrev pub marked_type : List ℕ → ℕ → FnType → FnType
 marked_type marks number f = record f { effects = marked marks number f.effects }
-
--- what one declaration says of a function
-pub record FunctionDeclaration : Type 0 where
-  pub name : Span
-  pub number : ℕ
-  pub made : Made
-  pub kind : FnType
-  pub internal : Bool
-  pub has_body : Bool
-  -- it breaks a rule on types that only this declaration tells
-  pub mistyped : Bool
 
 -- The first declaration of a function: the next number is its own.
 abbrev pub function_added : FunctionDeclaration → List ℕ → Rule (Unit {0})
@@ -98,17 +88,21 @@ function_declared d (Some (Function number)) = do
   further_declaration d s.marks number (slice_get s.functions number)
 function_declared d (Some e) = fails 2 d.name.start
 
+abbrev pub declared_at : ℕ → Option ℕ → CType → Rule (Unit {0})
+declared_at offset (Some name) t = declared name (Variable t (Automatic offset) None)
+declared_at offset None t = gives tt
+
 -- The parameters stand in the scope of the outermost block, each with one word of the frame.
 abbrev pub parameters_declared : ℕ → List Parameter → Rule (Unit {0})
 parameters_declared offset [] = gives tt
-parameters_declared offset (p ∷ ps) = named offset p.name p.kind >> parameters_declared (offset + 1) ps
-  where
-    named : ℕ → Option ℕ → CType → Rule (Unit {0})
-    named offset (Some name) t = declared name (Variable t (Automatic offset) None)
-    named offset None t = gives tt
+parameters_declared offset (p ∷ ps) = declared_at offset p.name p.kind >> parameters_declared (offset + 1) ps
 
 abbrev pub body_begun : FnType → Rule (Unit {0})
 body_begun kind = changes (λ s. record s { frame = length kind.params; result = kind.result })
+
+-- what stands in the scope of a body before its block
+abbrev pub body_opened : FnType → List Parameter → Rule (Unit {0})
+body_opened kind parameters = parameters_declared 0 parameters >> body_begun kind
 
 abbrev pub with_body : Option FunctionInfo → ℕ → List Stmt → ℕ → Rule (Unit {0})
 with_body (Some f) number items frame = function_set number (record f { body = Some (record { items = items }); frame_words = frame })
@@ -123,5 +117,5 @@ function_defined number items = do
 -- the body of a function: its parameters and its outermost block have one scope (C17 6.2.1)
 unfoldable pub body_read : ℕ → FnType → List Parameter → Rule (List Stmt) → Rule (Unit {0})
 body_read number kind parameters block = do
-  items ← scoped (parameters_declared 0 parameters >> body_begun kind >> block)
+  items ← scoped (body_opened kind parameters >> block)
   function_defined number items

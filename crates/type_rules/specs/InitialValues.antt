@@ -13,8 +13,10 @@ use Rattle.core_unit.specs.declared.expressions.Place.{Place}
 use Rattle.core_unit.specs.declared.expressions.Storage.TheVariants.{Static}
 use Rattle.core_unit.specs.declared.words.Word.{Word}
 use Rattle.core_unit.specs.declared.words.Word.TheVariants as word
-use Rattle.type_rules.specs.Constants.{Worth, Known, worth}
+use Rattle.type_rules.specs.Constants.{worth}
 use Rattle.type_rules.specs.Literals.{text_initially}
+use Rattle.type_rules.specs.declared.found.Worth.{Worth}
+use Rattle.type_rules.specs.declared.found.Worth.TheVariants.{Known}
 use Rattle.type_rules.specs.declared.notes.Initial.{Initial}
 
 -- the address of an object of static storage

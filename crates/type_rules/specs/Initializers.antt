@@ -32,7 +32,8 @@ use Rattle.type_rules.specs.declared.found.Form.{Form}
 use Rattle.type_rules.specs.declared.found.Form.TheVariants.{Lvalue, Value}
 use Rattle.type_rules.specs.InitialValues.{initializer_words}
 use Rattle.type_rules.specs.Literals.{number_in, text_in}
-use Rattle.type_rules.specs.Operands.{Operand, as_value, is_whole}
+use Rattle.type_rules.specs.declared.found.Operand.{Operand}
+use Rattle.type_rules.specs.Operands.{as_value, is_whole}
 use Rattle.type_rules.specs.Primaries.{name, string_object, first_place}
 use Rattle.type_rules.specs.Reading.{Rule, Good, Bad, gives, fails, refused, seen, name_number, meaning, ◌>>=◌, ◌>>◌}
 use Rattle.type_rules.specs.Recursion.{expression}
@@ -173,19 +174,26 @@ finished t given = do
   s ← seen
   gives (listed (words_of s.structures t) given)
 
--- A list: `{0}` for any object, one expression for a scalar, the parts in order for an array or a structure, and nothing else for a mutex.
-unfoldable pub by_list : ℕ → CType → (List ℕ → Bool) → Rule Initializer → Rule Initializer → Rule Initializer
-by_list place t zeroing scalar_read parts_read = λ s.
-    if zeroing s.source then Good (init.Zeros (words_of s.structures t)) s
+-- A list: `{0}` for any object, one expression for a scalar, the parts in order for an array or a structure, and nothing else for a mutex. It has
+-- something in it, which the grammar asks already.
+unfoldable pub by_list : ℕ → CType → Bool → (List ℕ → Bool) → Rule Initializer → Rule Initializer → Rule Initializer
+by_list place t is_empty zeroing scalar_read parts_read = λ s.
+    if is_empty then Bad 9 place
+    else if zeroing s.source then Good (init.Zeros (words_of s.structures t)) s
     else if is_scalar t then scalar_read s
     else if is_aggregate t then parts_read s
     else Bad 9 place
+
+-- how many stand in a list
+unfoldable pub count : {n : _} → Row_of-Init n → ℕ
+count end_of-Init = 0
+count (more_of-Init i is) = count is + 1
 
 unfoldable mutual
   pub initialized : Bool → CType → Init → Rule Initializer
   initialized fixed t (written.Value e) = by_expression fixed t e
   initialized fixed t (written.List' place _ inits) =
-      by_list place t (is_zeroing inits) (braced fixed place t inits) (parts fixed place t 0 [] inits)
+      by_list place t (nat_eq (count inits) 0) (is_zeroing inits) (braced fixed place t inits) (parts fixed place t 0 [] inits)
 
   -- from the part of this number on, behind those that were read
   pub parts : {n : _} → Bool → ℕ → CType → ℕ → List Initializer → Row_of-Init n → Rule Initializer
@@ -201,10 +209,6 @@ static_initializer t i = initialized true t i
 
 -- How many elements an initializer gives an array without a size (C17 6.7.9): those of its list, or the bytes of its string and the zero byte. It
 -- is told by the form of the initializer alone, so the array is declared, and has its words, before the initializer is read.
-unfoldable pub count : {n : _} → Row_of-Init n → ℕ
-count end_of-Init = 0
-count (more_of-Init i is) = count is + 1
-
 abbrev pub text_size : CType → List ℕ → tree.Expr → ℕ
 text_size Char source (tree.Text strings) = length (text_in source strings) + 1
 text_size t source e = 1

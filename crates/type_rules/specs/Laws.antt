@@ -1,16 +1,10 @@
 -- Laws of the typing, as statements: none of them is proved yet. They are proved with the code that types, or after it.
-use Rattle.std.specs.Prelude.{◌≡◌, ℕ, ◌+◌, ◌<◌, ◌≤◌, ◌^◌, Bool, true, false, List, [], length, slice_get, is_some, Option, Some, None, All}
+use Rattle.std.specs.Prelude.{◌≡◌, ℕ, ◌+◌, ◌<◌, ◌≤◌, ◌^◌, true, false, List, [], length, slice_get, is_some, Option, Some, None, All}
 use Rattle.eff_types.specs.Effects.{rank}
 use Rattle.eff_types.specs.declared.levels.Effects.{Effects}
-use Rattle.c_tree.specs.declared.statements.BlockItem as item
-use Rattle.c_tree.specs.declared.statements.BlockItem.{BlockItem}
-use Rattle.c_tree.specs.declared.statements.External.{External}
-use Rattle.c_tree.specs.declared.statements.External.TheVariants as external
-use Rattle.c_tree.specs.declared.statements.Stmt as written
-use Rattle.c_tree.specs.declared.statements.Stmt.{Stmt, Row_of-BlockItem, end_of-BlockItem, more_of-BlockItem, Row_of-Stmt, end_of-Stmt, more_of-Stmt, Held-Stmt-If-3}
 use Rattle.c_tree.specs.declared.statements.Tree.{Tree}
 use Rattle.core_unit.specs.Levels.{AddsNoLevel}
-use Rattle.core_unit.specs.Units.{IsUnit}
+use Rattle.core_unit.specs.Units.{AreNumbered, calls_of, IsUnit}
 use Rattle.core_unit.specs.declared.tables.FunctionInfo.{FunctionInfo}
 use Rattle.core_unit.specs.declared.tables.SiteInfo.{SiteInfo}
 use Rattle.core_unit.specs.declared.tables.UnitParts.{UnitParts}
@@ -20,42 +14,10 @@ use Rattle.type_rules.specs.Units.{read_unit, typed, IsTyped, outcome}
 use Rattle.type_rules.specs.declared.notes.TypeWarning.{TypeWarning}
 use Rattle.type_rules.specs.declared.notes.TypeWarning.TheVariants as warning
 
--- `break` and `continue` stand inside a loop, as the grammar asks (C17 6.8.6). The rules ask nothing of it.
-unfoldable mutual
-  pub IsLooped : Bool → Stmt → Type 0
-  IsLooped looped (written.Block' place _ items) = AreLooped looped items
-  IsLooped looped (written.If' place c _ (more_of-Stmt s end_of-Stmt) other) = IsLooped looped s × ElseIsLooped looped other
-  IsLooped looped (written.While' place c _ (more_of-Stmt s end_of-Stmt)) = IsLooped true s
-  IsLooped looped (written.DoWhile' place _ (more_of-Stmt s end_of-Stmt) c) = IsLooped true s
-  IsLooped looped (written.For' place begin c next _ (more_of-Stmt s end_of-Stmt)) = IsLooped true s
-  IsLooped looped (written.Break place) = looped ≡ true
-  IsLooped looped (written.Continue place) = looped ≡ true
-  IsLooped looped (written.Expression place e) = Unit {0}
-  IsLooped looped (written.Return place e) = Unit {0}
-
-  pub ElseIsLooped : Bool → Held-Stmt-If-3 → Type 0
-  ElseIsLooped looped written.None' = Unit {0}
-  ElseIsLooped looped (written.Some' _ (more_of-Stmt s end_of-Stmt)) = IsLooped looped s
-
-  pub ItemIsLooped : Bool → BlockItem → Type 0
-  ItemIsLooped looped (item.Declaration d) = Unit {0}
-  ItemIsLooped looped (item.Statement' _ (more_of-Stmt s end_of-Stmt)) = IsLooped looped s
-
-  pub AreLooped : {n : _} → Bool → Row_of-BlockItem n → Type 0
-  AreLooped looped end_of-BlockItem = Unit {0}
-  AreLooped looped (more_of-BlockItem i is) = ItemIsLooped looped i × AreLooped looped is
-
-abbrev pub ExternalIsLooped : External → Type 0
-ExternalIsLooped (external.Declaration d) = Unit {0}
-ExternalIsLooped (external.Function f) = All (ItemIsLooped false) f.body
-
-abbrev pub TreeIsLooped : Tree → Type 0
-TreeIsLooped tree = All ExternalIsLooped tree.externals
-
--- A typed unit is a unit.
+-- A typed unit is a unit, where its calls are numbered in order of place, as they are where the nodes of the tree stand in order.
 abbrev pub TypedUnitsAreUnits : Type 0
 TypedUnitsAreUnits = (source marks : List ℕ) (tree : Tree) (u : UnitParts) (warnings : List TypeWarning) →
-    outcome source marks tree ≡ IsTyped u warnings → TreeIsLooped tree → length u.structures < 2 ^ 32 → IsUnit u
+    All (λ byte. byte < 256) source → outcome source marks tree ≡ IsTyped u warnings → AreNumbered 1 (calls_of u) u.sites → length u.structures < 2 ^ 32 → IsUnit u
 
 -- no conversion is warned of
 abbrev pub IsNoConversion : TypeWarning → Type 0

@@ -11,17 +11,12 @@ use Rattle.core_unit.specs.declared.operators.Cause.{Cause}
 use Rattle.core_unit.specs.declared.operators.Cause.TheVariants as cause
 use Rattle.core_unit.specs.declared.operators.Sign.{Sign}
 use Rattle.type_rules.specs.declared.found.Found.{Found}
+use Rattle.type_rules.specs.declared.found.Operand.{Operand}
 use Rattle.type_rules.specs.declared.found.Form.{Form}
 use Rattle.type_rules.specs.declared.found.Form.TheVariants.{Lvalue, Value}
 use Rattle.type_rules.specs.Reading.{Rule, gives, refused, fails, ◌>>=◌, ◌>>◌}
 
--- An expression that is used for its value. Arrays and functions have become pointers.
-pub record Operand : Type 0 where
-  -- the byte offset of its first token
-  pub place : ℕ
-  pub kind : CType
-  pub node : Expr
-
+-- an expression that is used for its value
 abbrev pub operand_of : ℕ → CType → Expr → Operand
 operand_of place kind node = record { place = place; kind = kind; node = node }
 

@@ -26,18 +26,14 @@ use Rattle.core_unit.specs.declared.operators.UnaryOperator.TheVariants as unary
 use Rattle.type_rules.specs.Constants.{is_null_constant}
 use Rattle.type_rules.specs.Conversions.{null_cause}
 use Rattle.type_rules.specs.declared.found.Found.{Found}
-use Rattle.type_rules.specs.Operands.{Operand, operand, found_value, turned, promoted, in_sign, common_sign}
+use Rattle.type_rules.specs.declared.found.Operand.{Operand}
+use Rattle.type_rules.specs.declared.found.Pair.{Pair}
+use Rattle.type_rules.specs.declared.found.Pair.TheVariants.{Numbers, PointerFirst, PointerSecond, Pointers, Others}
+use Rattle.type_rules.specs.Operands.{operand, found_value, turned, promoted, in_sign, common_sign}
 use Rattle.type_rules.specs.Reading.{Rule, gives, fails, refused, seen, ◌>>=◌, ◌>>◌}
 use Rattle.type_rules.specs.Types.{is_incomplete}
 
--- Two operands together: two numbers; a data pointer and a number, in either order; two data pointers of one type; another pair.
-pub data Pair : Type 0 where
-  Numbers : Pair
-  PointerFirst : Pair
-  PointerSecond : Pair
-  Pointers : Pair
-  Others : Pair
-
+-- what two operands are together, by their types
 unfoldable pub pair_of : CType → CType → Pair
 pair_of t u =
     if is_number t && is_number u then Numbers
@@ -182,17 +178,25 @@ operation place operator left right = do
   operation_on place operator a b
 
 -- Unary `+`, `-` and `~`: of a number, promoted. `!`: of a number or a pointer (C17 6.5.3.3).
+abbrev pub sign_operation_on : ℕ → (Sign → UnaryOperator) → Operand → Rule Found
+sign_operation_on place operator o = do
+  refused (not (is_number o.kind)) 3 place
+  gives (found_value place (number_type (sign_of o.kind)) (expr.Unary (operator (sign_of o.kind)) (promoted o).node))
+
 unfoldable pub sign_operation : ℕ → (Sign → UnaryOperator) → Rule Found → Rule Found
 sign_operation place operator expression = do
   o ← operand expression
-  refused (not (is_number o.kind)) 3 place
-  gives (found_value place (number_type (sign_of o.kind)) (expr.Unary (operator (sign_of o.kind)) (promoted o).node))
+  sign_operation_on place operator o
+
+abbrev pub negation_on : ℕ → Operand → Rule Found
+negation_on place o = do
+  refused (not (is_scalar o.kind)) 3 place
+  gives (found_value place Int (expr.Unary unary.Not (promoted o).node))
 
 unfoldable pub negation : ℕ → Rule Found → Rule Found
 negation place expression = do
   o ← operand expression
-  refused (not (is_scalar o.kind)) 3 place
-  gives (found_value place Int (expr.Unary unary.Not (promoted o).node))
+  negation_on place o
 
 -- a pointer to a function by which either of two may be called: the lesser level, and no flags
 abbrev pub shared_pointer : CType → CType → CType

@@ -16,7 +16,7 @@ use Rattle.type_rules.specs.Assignments.{assignment}
 use Rattle.type_rules.specs.Calls.{call, fresh, spine}
 use Rattle.type_rules.specs.Conversions.{cast}
 use Rattle.type_rules.specs.Expressions.{unary, postfix, with_argument}
-use Rattle.type_rules.specs.Operands.{Operand}
+use Rattle.type_rules.specs.declared.found.Operand.{Operand}
 use Rattle.type_rules.specs.Operators.{operation, choice}
 use Rattle.type_rules.specs.Primaries.{name, number, character, text, parenthesised}
 use Rattle.type_rules.specs.declared.found.Found.{Found}
@@ -68,7 +68,7 @@ unfoldable mutual
   specifier (spec.TypedefName name) b = typedef_name name b
   specifier (spec.Attribute a) b = gives (with_attribute a b)
   specifier (spec.StructName p name) b = structure_name name b
-  specifier (spec.Struct' p tag _ ms) b = structure tag (member_lines ms []) b
+  specifier (spec.Struct' p tag _ ms) b = structure p tag (member_lines ms []) b
   specifier (spec.EnumName p name) b = enumeration_name name b
   specifier (spec.Enum' p tag _ constants) b = enumeration tag (enumerators constants (Some 0)) b
 

@@ -21,17 +21,8 @@ use Rattle.type_rules.specs.Sizes.{size_of}
 use Rattle.type_rules.specs.declared.names.Entity.{Entity}
 use Rattle.type_rules.specs.declared.names.Entity.TheVariants.{TypeName, Enumerator}
 use Rattle.type_rules.specs.declared.names.Tag.{Tag}
+pub use Rattle.type_rules.specs.declared.specifiers.Specifiers.{Specifiers}
 use Rattle.type_rules.specs.declared.names.Tag.TheVariants.{Structure, Enumeration}
-
--- what the specifiers of a declaration say, as far as they were read
-pub record Specifiers : Type 0 where
-  pub is_typedef : Bool
-  pub is_static : Bool
-  pub is_thread_local : Bool
-  -- `_Noreturn`
-  pub is_noreturn : Bool
-  pub kind : Option CType
-  pub attributes : List Attr
 
 abbrev pub no_specifiers : Specifiers
 no_specifiers = record {
@@ -74,13 +65,13 @@ with_type_word word b = with_type (type_with word b.kind) b
 abbrev pub with_attribute : Attr → Specifiers → Specifiers
 with_attribute a b = record b { attributes = b.attributes ++ a ∷ [] }
 
+abbrev pub or_int : Option CType → CType
+or_int (Some t) = t
+or_int None = Int
+
 -- The type that the specifiers say. The grammar asks for one.
 abbrev pub base_type : Specifiers → CType
-base_type b = of b.kind
-  where
-    of : Option CType → CType
-    of (Some t) = t
-    of None = Int
+base_type b = or_int b.kind
 
 -- A typedef name is the type that it was given (C17 6.7.8).
 abbrev pub named_type : Option Entity → ℕ → Rule CType
@@ -153,14 +144,20 @@ structure_name name b = do
   k ← tagged_structure false name
   gives (with_type (Struct k) b)
 
+-- a structure behind its members: it has one (C17 6.7.2.1), which the grammar asks already
+abbrev pub structure_closed : ℕ → Option Span → ℕ → List MemberInfo → Specifiers → Rule Specifiers
+structure_closed place tag k members b = do
+  refused (length members == 0) 10 place
+  text ← tag_spelling tag
+  completed k text members
+  gives (with_type (Struct k) b)
+
 -- `struct tag { members }`: a second definition of a tag is refused before its members are read.
-unfoldable pub structure : Option Span → Rule (List MemberInfo) → Specifiers → Rule Specifiers
-structure tag members b = do
+unfoldable pub structure : ℕ → Option Span → Rule (List MemberInfo) → Specifiers → Rule Specifiers
+structure place tag members b = do
   k ← opened_structure tag
   ms ← members
-  text ← tag_spelling tag
-  completed k text ms
-  gives (with_type (Struct k) b)
+  structure_closed place tag k ms b
 
 -- an enumeration by its tag (C17 6.7.2.2); one that isn't defined may be named (this project's own rule)
 abbrev pub enumeration_by : Span → ℕ → Bool → Option Tag → Rule (Unit {0})
@@ -210,11 +207,20 @@ enumerator_value place None (Some bits) = gives bits
 enumerator_value place None None = fails 7 place
 
 -- An enumerator: its name is asked before its value is read.
-unfoldable pub enumerator : Span → Option (Rule Found) → Option ℕ → Rule (Option ℕ)
-enumerator name written next = do
+abbrev pub enumerator_named : Span → Rule ℕ
+enumerator_named name = do
   number ← name_number name
   here ← meaning_here number
   refused (is_some here) 2 name.start
+  gives number
+
+abbrev pub enumerator_valued : Span → ℕ → Option (Rule Found) → Option ℕ → Rule (Option ℕ)
+enumerator_valued name number written next = do
   bits ← enumerator_value name.start written next
   declared number (Enumerator bits)
   gives (next_int bits)
+
+unfoldable pub enumerator : Span → Option (Rule Found) → Option ℕ → Rule (Option ℕ)
+enumerator name written next = do
+  number ← enumerator_named name
+  enumerator_valued name number written next

@@ -1,5 +1,5 @@
 -- Statements (C17 6.8).
-use Rattle.std.specs.Prelude.{ℕ, not, List, [], ◌∷◌, ◌++◌, Option, Some, None}
+use Rattle.std.specs.Prelude.{ℕ, Bool, true, false, not, List, [], ◌∷◌, ◌++◌, Option, Some, None}
 use Rattle.eff_types.specs.Types.{is_void}
 use Rattle.eff_types.specs.declared.types.CType.{CType}
 use Rattle.c_tree.specs.declared.expressions.Expr as tree
@@ -129,34 +129,41 @@ alone read = do
   s ← read
   gives (s ∷ [])
 
+-- `break` and `continue` stand inside a loop (C17 6.8.6), which the grammar asks already
+abbrev pub jump : Bool → ℕ → Stmt → Rule Stmt
+jump looped place s = do
+  refused (not looped) 3 place
+  gives s
+
+-- `looped`: inside a loop
 unfoldable mutual
-  pub statement : written.Stmt → Rule Stmt
-  statement (written.Block' place _ items) = block (items_behind [] items)
-  statement (written.Expression place e) = expression_statement e
-  statement (written.If' place c _ (more_of-Stmt s end_of-Stmt) other) = selection c (statement s) (otherwise other)
-  statement (written.While' place c _ (more_of-Stmt s end_of-Stmt)) = while_loop c (statement s)
-  statement (written.DoWhile' place _ (more_of-Stmt s end_of-Stmt) c) = do_loop c (statement s)
-  statement (written.For' place begin c next _ (more_of-Stmt s end_of-Stmt)) = for_loop begin c next (statement s)
-  statement (written.Break place) = gives stmt.Break
-  statement (written.Continue place) = gives stmt.Continue
-  statement (written.Return place e) = returned place e
+  pub statement : Bool → written.Stmt → Rule Stmt
+  statement looped (written.Block' place _ items) = block (items_behind looped [] items)
+  statement looped (written.Expression place e) = expression_statement e
+  statement looped (written.If' place c _ (more_of-Stmt s end_of-Stmt) other) = selection c (statement looped s) (otherwise looped other)
+  statement looped (written.While' place c _ (more_of-Stmt s end_of-Stmt)) = while_loop c (statement true s)
+  statement looped (written.DoWhile' place _ (more_of-Stmt s end_of-Stmt) c) = do_loop c (statement true s)
+  statement looped (written.For' place begin c next _ (more_of-Stmt s end_of-Stmt)) = for_loop begin c next (statement true s)
+  statement looped (written.Break place) = jump looped place stmt.Break
+  statement looped (written.Continue place) = jump looped place stmt.Continue
+  statement looped (written.Return place e) = returned place e
 
   -- at most one statement behind `else`
-  pub otherwise : Held-Stmt-If-3 → Rule (List Stmt)
-  otherwise written.None' = gives []
-  otherwise (written.Some' _ (more_of-Stmt s end_of-Stmt)) = alone (statement s)
+  pub otherwise : Bool → Held-Stmt-If-3 → Rule (List Stmt)
+  otherwise looped written.None' = gives []
+  otherwise looped (written.Some' _ (more_of-Stmt s end_of-Stmt)) = alone (statement looped s)
 
-  pub block_item : BlockItem → Rule (List Stmt)
-  block_item (item.Declaration d) = block_declaration d
-  block_item (item.Statement' _ (more_of-Stmt s end_of-Stmt)) = alone (statement s)
+  pub block_item : Bool → BlockItem → Rule (List Stmt)
+  block_item looped (item.Declaration d) = block_declaration d
+  block_item looped (item.Statement' _ (more_of-Stmt s end_of-Stmt)) = alone (statement looped s)
 
-  pub items_behind : {n : _} → List Stmt → Row_of-BlockItem n → Rule (List Stmt)
-  items_behind before end_of-BlockItem = gives before
-  items_behind before (more_of-BlockItem i is) = with_items before (block_item i) (λ all. items_behind all is)
+  pub items_behind : {n : _} → Bool → List Stmt → Row_of-BlockItem n → Rule (List Stmt)
+  items_behind looped before end_of-BlockItem = gives before
+  items_behind looped before (more_of-BlockItem i is) = with_items before (block_item looped i) (λ all. items_behind looped all is)
 
 unfoldable pub list_behind : List Stmt → List BlockItem → Rule (List Stmt)
 list_behind before [] = gives before
-list_behind before (i ∷ is) = with_items before (block_item i) (λ all. list_behind all is)
+list_behind before (i ∷ is) = with_items before (block_item false i) (λ all. list_behind all is)
 
 -- what stands in a function's outermost block, which has the scope of its parameters
 unfoldable pub block_items : List BlockItem → Rule (List Stmt)

@@ -24,11 +24,6 @@ is_incomplete structures (Struct k) = is_open (slice_get structures k)
 is_incomplete structures (Array' _ _ n) = n == 0
 is_incomplete structures _ = false
 
--- an array without a size
-abbrev pub is_unsized : CType → Bool
-is_unsized (Array' _ _ n) = n == 0
-is_unsized _ = false
-
 -- what a function may give (this project's own rule: no structures)
 abbrev pub is_result : CType → Bool
 is_result t = is_void t || is_scalar t
@@ -49,22 +44,22 @@ word_effects effect.Blocking = record plain { no_block_inference = true }
 word_effects effect.Allocating = record plain { no_alloc_inference = true }
 word_effects effect.NoReturn = plain
 
+abbrev pub says_no_return : Effect → Bool
+says_no_return effect.NoReturn = true
+says_no_return _ = false
+
 abbrev pub is_noreturn : AttrWord → Bool
-is_noreturn w = of w.effect
-  where
-    of : Effect → Bool
-    of effect.NoReturn = true
-    of _ = false
+is_noreturn w = says_no_return w.effect
 
 -- of attributes: whether one says that the function doesn't return, and the effects of the others
 abbrev pub says_noreturn : List Attr → Bool
 says_noreturn attributes = list_any (λ a. list_any is_noreturn a.words) attributes
 
+abbrev pub effects_of_word : AttrWord → List Effects
+effects_of_word w = if is_noreturn w then [] else word_effects w.effect ∷ []
+
 abbrev pub effects_in : List Attr → List Effects
-effects_in attributes = flat_map (λ a. flat_map of a.words) attributes
-  where
-    of : AttrWord → List Effects
-    of w = if is_noreturn w then [] else word_effects w.effect ∷ []
+effects_in attributes = flat_map (λ a. flat_map effects_of_word a.words) attributes
 
 -- The effects of the outermost function type, met through pointers and arrays: those of attributes in the specifiers belong to it.
 unfoldable pub outermost_effects : CType → Option Effects

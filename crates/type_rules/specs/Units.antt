@@ -1,5 +1,5 @@
 -- Typing (C17 6.9): the unit and the warnings of a tree, its first fault, or the limit that it passes.
-use Rattle.std.specs.Prelude.{ℕ, zero, suc, ◌+◌, ◌^◌, nat_lt, nat_eq, if◌then◌else◌, List, [], ◌∷◌, map, length, codes, Option, Some, None}
+use Rattle.std.specs.Prelude.{ℕ, zero, suc, ◌+◌, ◌^◌, nat_lt, nat_eq, if◌then◌else◌, List, [], ◌∷◌, map, length, slice_get, codes, Option, Some, None}
 use Rattle.std.specs.List.{list_any}
 use Rattle.scopes.specs.Scope.{Scope}
 use Rattle.c_tree.specs.declared.statements.External.{External}
@@ -15,6 +15,7 @@ use Rattle.core_unit.specs.declared.tables.UnitParts.{UnitParts}
 use Rattle.core_unit.specs.declared.units.Which.{Which}
 use Rattle.core_unit.specs.declared.units.Which.TheVariants as which
 use Rattle.type_rules.specs.Declarations.{file_declaration, definition}
+use Rattle.type_rules.specs.Functions.{effects_at}
 use Rattle.type_rules.specs.Reading.{Rule, Read, Good, Bad, and_then, ◌>>◌, gives}
 use Rattle.type_rules.specs.Seen.{Seen}
 use Rattle.type_rules.specs.Statements.{block_items}
@@ -98,10 +99,15 @@ abbrev pub words_from : ℕ → ℕ → List Initial → List ℕ
 words_from first zero values = []
 words_from first (suc n) values = value_at first values 0 ∷ words_from (first + 1) n values
 
+-- the functions, each with its effects in the whole unit
+abbrev pub with_whole : List Effects → ℕ → List FunctionInfo → List FunctionInfo
+with_whole whole number [] = []
+with_whole whole number (f ∷ fs) = record f { kind = effects_at (slice_get whole number) f.kind } ∷ with_whole whole (number + 1) fs
+
 -- The parts of the unit, but for the table of its sites.
 abbrev pub without_sites : Seen → UnitParts
 without_sites s = record {
-  functions = s.functions;
+  functions = with_whole s.whole 0 s.functions;
   definitions = s.definitions;
   sites = [];
   variables = s.variables;

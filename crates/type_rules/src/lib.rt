@@ -2,10 +2,14 @@
 //! the typing keeps meanwhile stands here.
 #![tactic(auto)]
 
+mod declarators;
 mod found;
 mod names;
 mod notes;
+mod specifiers;
 
-pub use found::{Constant, Form, Found};
+pub use declarators::{FunctionDeclaration, Made, Parameter, Part, Shape};
+pub use found::{Constant, Form, Found, Operand, Pair, Worth};
 pub use names::{Entity, Tag};
 pub use notes::{Initial, TypeWarning};
+pub use specifiers::Specifiers;

@@ -101,4 +101,18 @@ impl<'a> Typing<'a> {
         }
         Ok(first)
     }
+
+    /// The number of the next call site.
+    pub fn sites(&self) -> u32
+        ensures { result ≡ self.now.sites }
+    {
+        self.sites
+    }
+
+    /// Takes the numbering of call sites to this number: the operand of `sizeof` isn't evaluated, and has none (C17 6.5.3.4).
+    pub fn set_sites(&mut self, sites: u32)
+        ensures { self.new ≡ record self.old { sites = sites } }
+    {
+        self.sites = sites;
+    }
 }
