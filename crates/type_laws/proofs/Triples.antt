@@ -1,0 +1,206 @@
+-- Triples: what a rule keeps of what was seen before it, and what is true of what it gives. What it gives is read with the tables of the whole
+-- unit, to which those that were seen lead: so what is typed stays typed, and no lemma moves a tree from one table to the next.
+use Rattle.std.proofs.Common.{◌≡◌, ℕ, ◌<◌, ◌+◌, ◌-◌, ◌^◌, Bool, true, false, refl, List, [], ◌∷◌, length, drop, slice_get, Some, ◌∙◌}
+use Rattle.std.specs.Prelude.{if◌then◌else◌}
+use Rattle.scopes.specs.Scope.{Scope}
+use Rattle.eff_types.specs.declared.types.CType.TheVariants as a_type
+use Rattle.eff_types.specs.declared.levels.Effects.{Effects}
+use Rattle.core_unit.specs.Layout.{LaidOut, words_of}
+use Rattle.core_unit.specs.Library.{row_types}
+use Rattle.core_unit.specs.Typed.{Tables, IsKept, IsNamed}
+use Rattle.core_unit.specs.declared.tables.FunctionInfo.{FunctionInfo}
+use Rattle.core_unit.specs.declared.tables.MemberInfo.{MemberInfo}
+use Rattle.core_unit.specs.declared.tables.Object.{Object}
+use Rattle.core_unit.specs.declared.tables.StructInfo.{StructInfo}
+use Rattle.type_rules.specs.Functions.{effects_at}
+use Rattle.type_rules.specs.Reading.{Read, Good, Bad, and_then}
+use Rattle.type_rules.specs.Seen.{Seen}
+use Rattle.type_rules.specs.declared.names.Entity.{Entity}
+use Rattle.type_rules.specs.declared.names.Entity.TheVariants.{Variable, Function, TypeName, Enumerator, Library}
+use Rattle.type_rules.specs.declared.notes.TypeWarning.{TypeWarning}
+use Rattle.type_laws.proofs.Formed.{IsFormed, Stay, OpenAreEmpty, CompleteHaveWords, stay_same, stay_twice}
+use Rattle.type_laws.proofs.Types.{is_object}
+
+-- of each item
+abbrev pub Each : {A : Type 0} → (A → Type 0) → List A → Type 0
+Each P [] = Unit {0}
+Each P (x ∷ xs) = P x × Each P xs
+
+-- what is true of the meaning of a name, by what was seen
+abbrev pub IsLawfulEntity : List StructInfo → ℕ → Entity → Type 0
+IsLawfulEntity structures functions (Variable t storage number) = IsFormed structures t × (is_object t ≡ true)
+IsLawfulEntity structures functions (Function number) = number < functions
+IsLawfulEntity structures functions (TypeName t) = IsFormed structures t
+IsLawfulEntity structures functions (Enumerator bits) = bits < 2 ^ 32
+IsLawfulEntity structures functions (Library row) = row < length row_types
+IsLawfulEntity structures functions _ = Unit {0}
+
+-- and by the tables of the whole unit
+abbrev pub IsKnownEntity : Tables → Entity → Type 0
+IsKnownEntity u (Variable t storage number) = IsKept u storage t
+IsKnownEntity u _ = Unit {0}
+
+-- of the meaning of each name in scope
+abbrev pub EachEntity : (Entity → Type 0) → List (Scope Entity) → Type 0
+EachEntity P scopes = Each (Each (λ entry. P entry.1)) scopes
+
+-- The objects stand one behind the other, as long as their words are few enough to be told.
+abbrev pub AreLaidOut : ℕ → List Object → ℕ → Type 0
+AreLaidOut first objects words = words < 2 ^ 32 - 1 → LaidOut first objects (first + words)
+
+-- a function as it was declared so far
+pub record IsDeclared (structures : List StructInfo) (f : FunctionInfo) : Type 0 where
+  pub formed : IsFormed structures (a_type.Function f.kind)
+
+-- a member of a complete structure
+pub record IsLawfulMember (structures : List StructInfo) (m : MemberInfo) : Type 0 where
+  pub formed : IsFormed structures m.kind
+  pub some : 0 < words_of structures m.kind
+  pub solid : is_object m.kind ≡ true
+
+abbrev pub MembersAreLawful : List StructInfo → Type 0
+MembersAreLawful structures =
+    (k : ℕ) (info : StructInfo) (members : List MemberInfo) → slice_get structures k ≡ Some info → info.members ≡ Some members
+    → Each (IsLawfulMember structures) members
+
+-- what is true of all that was seen
+pub record IsLawful (source : List ℕ) (scopes : List (Scope Entity)) (functions : List FunctionInfo) (structures : List StructInfo) (sizes : List ℕ)
+    (statics : List Object) (static_words : ℕ) : Type 0 where
+  pub bytes : Each (λ byte. byte < 256) source
+  pub entities : EachEntity (IsLawfulEntity structures (length functions)) scopes
+  pub functions_formed : Each (IsDeclared structures) functions
+  pub open_are_empty : OpenAreEmpty structures
+  pub complete_have_words : CompleteHaveWords structures
+  pub members_lawful : MembersAreLawful structures
+  pub few : Each (λ words. words < 2 ^ 32) sizes
+  pub statics_stand : AreLaidOut 1 statics static_words
+
+abbrev pub Lawful : Seen → Type 0
+Lawful s = IsLawful s.source s.scopes s.functions s.structures s.sizes s.statics s.static_words
+
+-- a list of which each item stands in the other at the same index
+abbrev pub Begins : {A : Type 0} → List A → List A → Type 0
+Begins {A} xs ys = (i : ℕ) (x : A) → slice_get xs i ≡ Some x → slice_get ys i ≡ Some x
+
+-- the name of each function that was seen has its static type in the tables
+abbrev pub AreNamed : List Effects → List FunctionInfo → List FunctionInfo → Type 0
+AreNamed whole seen functions =
+    (i : ℕ) (f : FunctionInfo) → slice_get seen i ≡ Some f → IsNamed functions i (a_type.Function (effects_at (slice_get whole i) f.kind))
+
+-- what was seen leads to these tables
+pub record LeadsTo (whole : List Effects) (functions : List FunctionInfo) (structures : List StructInfo) (statics thread_locals : List Object) (u : Tables) : Type 0 where
+  pub named : AreNamed whole functions u.functions
+  pub stay : Stay structures u.structures
+  pub begin : Begins statics u.statics
+  pub thread_begin : Begins thread_locals u.thread_locals
+
+abbrev pub Leads : Seen → Tables → Type 0
+Leads s u = LeadsTo s.whole s.functions s.structures s.statics s.thread_locals u
+
+-- the tables know all names in scope
+abbrev pub Knows : Seen → Tables → Type 0
+Knows s u = EachEntity (IsKnownEntity u) s.scopes
+
+-- what a rule made: `K` is true of it by what was seen by then, `P` by the tables, where `pre` is true of them
+pub record Made {A : Type 0} (pre : Tables → Type 0) (K : A → Seen → Type 0) (P : A → Tables → Type 0) (s : Seen) (a : A) (t : Seen) : Type 0 where
+  pub lawful : Lawful t
+  pub stay : Stay s.structures t.structures
+  pub known : K a t
+  -- names are declared in the innermost scope alone
+  pub outer : drop 1 t.scopes ≡ drop 1 s.scopes
+  pub back : (u : Tables) → Leads t u → Leads s u
+  pub tables : (u : Tables) → Leads t u → Knows s u → pre u → Knows t u × P a u
+
+abbrev pub Holds : {A : Type 0} → (A → Seen → Type 0) → Read A → Type 0
+Holds P (Good a t) = P a t
+Holds P (Bad number place) = Unit {0}
+
+pub record Triple {A : Type 0} (pre : Tables → Type 0) (K : A → Seen → Type 0) (P : A → Tables → Type 0) (s : Seen) (r : Read A) : Type 0 where
+  pub holds : Holds (λ a t. Made pre K P s a t) r
+
+-- of a rule, wherever it is read
+abbrev pub Keeps : {A : Type 0} → (Tables → Type 0) → (A → Seen → Type 0) → (A → Tables → Type 0) → (Seen → Read A) → Type 0
+Keeps pre K P rule = (s : Seen) → Lawful s → Triple pre K P s (rule s)
+
+-- nothing is asked
+abbrev pub Always : Tables → Type 0
+Always u = Unit {0}
+
+module _ {A B : Type 0} (pre : Tables → Type 0) (K : A → Seen → Type 0) (P : A → Tables → Type 0) (L : B → Seen → Type 0) (Q : B → Tables → Type 0) where
+  -- what a rule makes behind another one
+  made_behind : (s : Seen) (a : A) (t : Seen) (b : B) (v : Seen) → Stay s.structures v.structures → Made pre K P s a t
+      → Made (λ u. pre u × P a u) L Q t b v → Made pre L Q s b v
+  made_behind s a t b v stay first second = record {
+    lawful = second.lawful;
+    stay = stay;
+    known = second.known;
+    outer = second.outer ∙ first.outer;
+    back = λ u leads. first.back u (second.back u leads);
+    tables = λ u leads knows p.
+        let here = first.tables u (second.back u leads) knows p in second.tables u leads here.0 (p, here.1);
+  }
+
+  holds_behind : (s : Seen) (a : A) (t : Seen) (r : Read B) → Made pre K P s a t → Holds (λ b v. Made (λ u. pre u × P a u) L Q t b v) r
+      → Holds (λ b v. Made pre L Q s b v) r
+  holds_behind s a t (Good b v) first second = made_behind s a t b v (stay_twice _ _ _ first.stay second.stay) first second
+  holds_behind s a t (Bad number place) first second = tt
+
+module _ {A B : Type 0} {pre : Tables → Type 0} {K : A → Seen → Type 0} {P : A → Tables → Type 0} {L : B → Seen → Type 0} {Q : B → Tables → Type 0} where
+  pub then_keeps : (s : Seen) (r : Read A) (k : A → Seen → Read B) → Triple pre K P s r
+      → ((a : A) (t : Seen) → Lawful t → Stay s.structures t.structures → K a t → Triple (λ u. pre u × P a u) L Q t (k a t)) → Triple pre L Q s (and_then r k)
+  unfolding and_then
+  then_keeps s (Good a t) k first next =
+      record { holds = holds_behind pre K P L Q s a t (k a t) first.holds (next a t first.holds.lawful first.holds.stay first.holds.known).holds }
+  then_keeps s (Bad number place) k first next = record { holds = tt }
+
+-- what is given without reading
+module _ {A : Type 0} {pre : Tables → Type 0} {K : A → Seen → Type 0} {P : A → Tables → Type 0} where
+  pub gives_keeps : (s : Seen) (a : A) → Lawful s → K a s → ((u : Tables) → Leads s u → Knows s u → pre u → P a u) → Triple pre K P s (Good a s)
+  gives_keeps s a lawful known typed = record {
+    holds = record {
+      lawful = lawful;
+      stay = stay_same s.structures;
+      known = known;
+      outer = refl;
+      back = λ u leads. leads;
+      tables = λ u leads knows p. (knows, typed u leads knows p);
+    };
+  }
+
+  pub fails_keeps : (s : Seen) (number place : ℕ) → Triple pre K P s (Bad number place)
+  fails_keeps s number place = record { holds = tt }
+
+  -- a test that refuses where it holds
+  pub refused_keeps : (s : Seen) (test : Bool) (number place : ℕ) (k : Unit {0} → Seen → Read A) → (test ≡ false → Triple pre K P s (k tt s))
+      → Triple pre K P s (and_then (if test then Bad number place else Good tt s) k)
+  unfolding and_then
+  refused_keeps s true number place k next = record { holds = tt }
+  refused_keeps s false number place k next = next refl
+
+  -- a warning more changes nothing else
+  pub noted_keeps : (s : Seen) (warnings : List TypeWarning) (a : A) → Lawful s → K a (record s { warnings = warnings })
+      → ((u : Tables) → Leads s u → Knows s u → pre u → P a u) → Triple pre K P s (Good a (record s { warnings = warnings }))
+  noted_keeps s warnings a lawful known typed = record {
+    holds = record {
+      lawful = lawful;
+      stay = stay_same s.structures;
+      known = known;
+      outer = refl;
+      back = λ u leads. leads;
+      tables = λ u leads knows p. (knows, typed u leads knows p);
+    };
+  }
+
+  -- what holds of all tables holds of those of which something is known
+  pub anyway : (s : Seen) (r : Read A) → Triple Always K P s r → Triple pre K P s r
+  anyway s (Good a t) h = record {
+    holds = record {
+      lawful = h.holds.lawful;
+      stay = h.holds.stay;
+      known = h.holds.known;
+      outer = h.holds.outer;
+      back = h.holds.back;
+      tables = λ u leads knows p. h.holds.tables u leads knows tt;
+    };
+  }
+  anyway s (Bad number place) h = record { holds = tt }

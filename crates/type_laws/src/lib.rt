@@ -1,0 +1,2 @@
+//! Laws of the typing: what its rules make is a unit.
+#![tactic(auto)]
