@@ -1,0 +1,4 @@
+pub mod KindEffects
+pub mod Sums
+pub mod Unions
+pub mod Words
