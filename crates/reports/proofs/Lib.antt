@@ -1,2 +1,4 @@
 pub mod Remaining
 pub mod LastStep
+pub mod Sames
+pub mod Orders

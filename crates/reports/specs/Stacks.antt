@@ -1,8 +1,9 @@
--- Stacks of calls: which there are, when two are the same, and their order. Each is this project's own rule.
-use Rattle.std.specs.Prelude.{ℕ, ◌<◌, ◌≤◌, ◌^◌, ◌==◌, ◌&&◌, Bool, List, length, All}
+-- Stacks of calls: which there are, and their order. Each is this project's own rule.
+use Rattle.std.specs.Prelude.{◌<◌, ◌≤◌, ◌^◌, List, length, All}
 use Rattle.std.specs.Ordering.{nat_cmp, ordering_then}
-use Rattle.std.specs.Cmp.Lexicographic.{slice_cmp, pointwise}
+use Rattle.std.specs.Cmp.Lexicographic.{slice_cmp}
 use Rattle.std.specs.declared.cmp.Ordering.{Ordering}
+pub use Rattle.ctx_set.specs.Prefixes.{is_same_step, is_same}
 use Rattle.ctx_set.specs.declared.steps.StackStep.{StackStep}
 
 -- a function of the unit or of the library, and the call that led to it
@@ -15,12 +16,6 @@ pub record IsStack (stack : List StackStep) : Type 0 where
   pub some : 0 < length stack
   pub few : length stack ≤ 257
   pub steps : All IsStep stack
-
-abbrev pub is_same_step : StackStep → StackStep → Bool
-is_same_step a b = a.target == b.target && a.site == b.site
-
-abbrev pub is_same : List StackStep → List StackStep → Bool
-is_same a b = pointwise is_same_step a b
 
 -- steps in order of their functions, and then of their calls
 abbrev pub step_cmp : StackStep → StackStep → Ordering

@@ -1,9 +1,12 @@
 //! Stacks with their counts.
 
 ghost use Rattle.std.specs.Prelude.{◌≡◌, ◌∷◌, [], ◌++◌, length, OnOk, OnErr};
+ghost use Rattle.std.specs.List.Sorted.{IsPermutation, IsSortedByKey};
+ghost use Rattle.reports.specs.Stacks.{stack_cmp};
 
 use ctx_set::StepList;
 use std::alloc::{AllocError, Global};
+use std::cmp::Ordering;
 use std::marker::Model;
 
 /// A stack, and how many reports had it.
@@ -11,6 +14,13 @@ use std::marker::Model;
 pub struct StackCount {
     pub stack: StepList,
     pub count: u64,
+}
+
+// The order of two entries is that of their stacks.
+fn compare(a: &StackCount, b: &StackCount) -> Ordering
+    ensures { result ≡ stack_cmp a.now.stack b.now.stack }
+{
+    a.stack.as_slice().cmp(&b.stack.as_slice())
 }
 
 /// A list of stacks with their counts.
@@ -54,7 +64,15 @@ impl StackList {
         Ok(())
     }
 
-    /// The stacks in order.
+    /// Puts the entries in the order of their stacks; it takes no memory.
+    pub fn sort(&mut self)
+        ensures same { IsPermutation self.old self.new }
+        ensures sorted { IsSortedByKey (λ entry. entry.stack) stack_cmp self.new }
+    {
+        self.items.sort_unstable_by(compare);
+    }
+
+    /// The entries as they stand.
     pub fn as_slice(&self) -> &[StackCount]
         ensures { result.now ≡ self.now }
     {

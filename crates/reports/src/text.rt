@@ -1,5 +1,6 @@
 //! The printed text of reports and of a run's totals.
 
+ghost use Rattle.c_text.specs.declared.limits.TheConstants.{SOURCE_LIMIT};
 ghost use Rattle.std.specs.Prelude.{◌≡◌, ◌++◌, ◌≤◌, length, reverse, All};
 ghost use Rattle.c_text.specs.Place.{line_column};
 ghost use Rattle.rt_base.specs.Outside.{IsWritten};
@@ -24,7 +25,7 @@ pub fn write_reports<S: Sink>(
     stacks: &StackList,
     out: &mut S,
 ) -> Result<(), SinkFault>
-    requires short { length source.now ≤ 1048576 }
+    requires short { length source.now ≤ SOURCE_LIMIT }
     requires within { All (λ site. site.place ≤ length source.now) unit.now.sites }
     ensures { IsWritten (reports_text source.now unit.now stacks.now) result (S.state out.old) (S.state out.new) }
 {
@@ -41,7 +42,7 @@ fn write_report<S: Sink>(
     counted: &StackCount,
     out: &mut S,
 ) -> Result<(), SinkFault>
-    requires short { length source.now ≤ 1048576 }
+    requires short { length source.now ≤ SOURCE_LIMIT }
     requires within { All (λ site. site.place ≤ length source.now) unit.now.sites }
     ensures { IsWritten (report_text source.now unit.now counted.now) result (S.state out.old) (S.state out.new) }
 {
@@ -88,7 +89,7 @@ fn write_callers<S: Sink>(
     callers: &[StackStep],
     out: &mut S,
 ) -> Result<(), SinkFault>
-    requires short { length source.now ≤ 1048576 }
+    requires short { length source.now ≤ SOURCE_LIMIT }
     requires within { All (λ site. site.place ≤ length source.now) unit.now.sites }
     ensures { IsWritten (callers_text source.now unit.now 1 site (reverse callers.now)) result (S.state out.old) (S.state out.new) }
 {
@@ -112,7 +113,7 @@ fn write_caller<S: Sink>(
     site: u32,
     out: &mut S,
 ) -> Result<(), SinkFault>
-    requires short { length source.now ≤ 1048576 }
+    requires short { length source.now ≤ SOURCE_LIMIT }
     requires within { All (λ site. site.place ≤ length source.now) unit.now.sites }
     ensures { IsWritten (caller_at index (places.name_of unit.now function) (line_column source.now (place_of unit.now site))) result (S.state out.old) (S.state out.new) }
 {

@@ -2,3 +2,4 @@ pub mod Contexts
 pub mod Frames
 pub mod Places
 pub mod Verdicts
+pub mod Suppressing
