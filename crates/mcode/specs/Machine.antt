@@ -1,5 +1,5 @@
 -- The plain machine: what its instructions do, one line each (this project's own rules; each does what a part of the evaluation of a C program does).
-use Rattle.std.specs.Prelude.{ℕ, zero, suc, ◌+◌, Bool, true, false, not, ◌&&◌, nat_eq, nat_lt, nat_le, if◌then◌else◌, List, [], ◌∷◌, length, drop, map, reverse, Option, Some, None, Result, Ok, Err, ℤ, pos, slice_get}
+use Rattle.std.specs.Prelude.{ℕ, zero, suc, ◌+◌, Bool, true, false, not, ◌&&◌, nat_eq, nat_lt, nat_le, if◌then◌else◌, List, [], ◌∷◌, length, drop, map, reverse, Option, Some, None, Result, Ok, Err, ℤ, pos, slice_get, slice_index}
 use Rattle.std.specs.Option.{option_map_or}
 use Rattle.arithmetic.specs.Numbers.{value_of}
 use Rattle.arithmetic.specs.Operators.{truth}
@@ -31,11 +31,13 @@ use Rattle.mcode.specs.declared.events.Finish.TheVariants.{Returned, Exited, Tra
 use Rattle.mcode.specs.declared.events.Turned.{Turned}
 use Rattle.mcode.specs.declared.thread.Caller.{Caller}
 use Rattle.mcode.specs.declared.thread.Mode.{Mode}
-use Rattle.mcode.specs.declared.thread.Mode.TheVariants.{Starting, Entering, Running, Filling, Calling, Failing, Delivering, Telling, Stopping, Done}
+use Rattle.mcode.specs.declared.thread.Mode.TheVariants.{Starting, Entering, Running, Filling, Spelling, Calling, Failing, Delivering, Telling, Stopping, Done}
 
--- Code: its instructions; what it knows of each function that is defined, by its number; the entry function; how many words static storage has.
+-- Code: its instructions; the characters of the strings that initialize block variables, by their bytes; what it knows of each function that is
+-- defined, by its number; the entry function; how many words static storage has.
 pub record Program : Type 0 where
   pub instructions : List Instruction
+  pub texts : List ℕ
   pub entries : List (Option Entry)
   pub entry : ℕ
   pub static_words : ℕ
@@ -81,12 +83,14 @@ abbrev pub finds_of_held : Machine → Result Word TrapKind → Step Machine
 finds_of_held t (Ok value) = Quiet (record t { pc = suc t.pc; value = value; held = drop 1 t.held })
 finds_of_held t (Err kind) = fails t kind
 
+-- an access at the address that was found
+abbrev pub accesses_at : Machine → Result ℕ TrapKind → (ℕ → Step Machine) → Step Machine
+accesses_at t (Ok at) go = go at
+accesses_at t (Err kind) go = fails t kind
+
+-- through a pointer
 abbrev pub accesses : Machine → Word → (ℕ → Step Machine) → Step Machine
-accesses t pointer go = of (accessed pointer)
-  where
-    of : Result ℕ TrapKind → Step Machine
-    of (Ok at) = go at
-    of (Err kind) = fails t kind
+accesses t pointer go = accesses_at t (accessed pointer) go
 
 -- a word for a function serves a load of pointers to functions of its type's number, at most at its level
 abbrev pub serves_function : Option Entry → Level → Served → Bool
@@ -135,8 +139,18 @@ filling offset word (suc left) = Filling offset word (suc left)
 
 -- a word is stored so many times
 abbrev pub fills : Program → Machine → (offset word count : ℕ) → Step Machine
-fills c t offset word zero = Quiet t
+fills c t offset word zero = Quiet (record t { mode = Running })
 fills c t offset word (suc left) = puts c t offset word (record t { mode = filling (suc offset) word left })
+
+abbrev pub spelling : (offset at left : ℕ) → Mode
+spelling offset at zero = Running
+spelling offset at (suc left) = Spelling offset at (suc left)
+
+-- so many characters are stored, of which the first one is this one of the texts
+abbrev pub spells : Program → Machine → (offset at count : ℕ) → Step Machine
+spells c t offset at zero = Quiet (record t { mode = Running })
+spells c t offset at (suc left) =
+    puts c t offset (packed (number (slice_index c.texts at))) (record t { mode = spelling (suc offset) (suc at) left })
 
 abbrev pub has_room : Machine → Entry → Bool
 has_room t entry = nat_lt (length t.callers) frame_limit && nat_le (t.top + entry.frame_words) stack_words
@@ -220,6 +234,7 @@ act c t (instruction.GoTo place) = goes t place
 act c t (instruction.GoIfZero place) = goes t (if is_true t.value then suc t.pc else place)
 act c t (instruction.GoIfNotZero place) = goes t (if is_true t.value then place else suc t.pc)
 act c t (instruction.Fill offset word count) = fills c (record t { pc = suc t.pc }) offset word count
+act c t (instruction.FillText offset at count) = spells c (record t { pc = suc t.pc }) offset at count
 act c t (instruction.Put offset level) = puts c t offset (packed (written_at level t.value)) (record t { pc = suc t.pc })
 act c t (instruction.Guard count) = if is_true (held_at t.held count) then goes t (suc t.pc) else fails t NullCall
 act c t instruction.CheckHalt = asks (Load halt) (λ word. unless_halted t word (record t { pc = suc t.pc }))
@@ -249,6 +264,7 @@ moves c t (Starting function) = asks (Load halt) (λ word. unless_halted t word 
 moves c t (Entering function) = enters t function 0 0 0 (entry_of c function)
 moves c t Running = acts c t (slice_get c.instructions t.pc)
 moves c t (Filling offset word count) = fills c t offset word count
+moves c t (Spelling offset at count) = spells c t offset at count
 moves c t (Calling stage) =
     Makes (stage_asks t.number stage) (λ word. staged t (stage_after t.number stage word)) (λ word. turned_to (stage_after t.number stage word))
 moves c t (Failing kind) = does (Trap kind) (record t { mode = Stopping (Trapped kind) })

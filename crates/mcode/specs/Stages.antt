@@ -30,13 +30,14 @@ pub data Staged : Type 0 where
   -- the thread saw that all threads are to halt
   Halts : Staged
 
+-- at the address that was found
+abbrev pub at_found : Result ℕ TrapKind → (ℕ → Staged) → Staged
+at_found (Ok at) go = go at
+at_found (Err kind) go = Traps kind
+
 -- through a pointer to an object
 abbrev pub through : Word → (ℕ → Staged) → Staged
-through pointer go = of (accessed pointer)
-  where
-    of : Result ℕ TrapKind → Staged
-    of (Ok at) = go at
-    of (Err kind) = Traps kind
+through pointer go = at_found (accessed pointer) go
 
 -- A value that was held, which counts from the latest.
 abbrev pub held_at : List Word → ℕ → Word
@@ -86,13 +87,13 @@ row_begins =
     ∷ (λ held. Traps Abort)  -- abort
     ∷ []
 
+abbrev pub begins_by : Option (List Word → Staged) → List Word → Staged
+begins_by (Some begins) held = begins held
+begins_by None held = Traps NullCall
+
 -- A call of the function of a row, which counts from 0 (there is no other row).
 abbrev pub call_begins : (row : ℕ) → List Word → Staged
-call_begins row held = of (slice_get row_begins row)
-  where
-    of : Option (List Word → Staged) → Staged
-    of (Some begins) = begins held
-    of None = Traps NullCall
+call_begins row held = begins_by (slice_get row_begins row) held
 
 -- The event of a stage, in the thread of this number.
 abbrev pub stage_asks : (thread : ℕ) → Stage → Ask

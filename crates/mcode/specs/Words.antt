@@ -7,7 +7,7 @@ use Rattle.eff_types.specs.declared.levels.Level.{Level}
 use Rattle.eff_types.specs.declared.levels.Level.TheVariants.{Plain, NonAllocating, NonBlocking}
 use Rattle.eff_types.specs.declared.types.CType.{CType}
 use Rattle.eff_types.specs.declared.types.FnType.{FnType}
-use Rattle.core_unit.specs.Shapes.{callee_of}
+use Rattle.core_unit.specs.Shapes.{callee_of, level_of}
 use Rattle.core_unit.specs.Words.{packed}
 use Rattle.core_unit.specs.declared.body.Body.{Body}
 use Rattle.core_unit.specs.declared.tables.FunctionInfo.{FunctionInfo}
@@ -51,14 +51,6 @@ abbrev pub accessed : Word → Result ℕ TrapKind
 accessed Zero = Err NullAccess
 accessed (DataPointer at) = if nat_lt at halt then Ok at else Err BadAccess
 accessed _ = Err BadAccess
-
-abbrev pub level_in : Option FnType → Level
-level_in (Some f) = f.effects.level
-level_in None = Plain
-
--- the level of the function type that a type is or points to
-abbrev pub level_of : CType → Level
-level_of t = level_in (callee_of t)
 
 abbrev pub is_defined : Option Body → Bool
 is_defined (Some body) = true

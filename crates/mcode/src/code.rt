@@ -49,6 +49,8 @@ pub enum Instruction {
     GoIfNotZero(u32),
     /// From an offset of the frame on, stores this word so many times.
     Fill(u32, u64, u32),
+    /// From an offset of the frame on, stores characters of the code's texts: the index of the first one, and how many.
+    FillText(u32, u32, u32),
     /// Stores the value at an offset of the frame.
     Put(u32, Level),
     /// Is trapped where the callee, which is held below so many arguments, is null.

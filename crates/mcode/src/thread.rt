@@ -28,6 +28,8 @@ pub enum Mode {
     Running,
     /// It stores a word at an offset of the frame, so many times from there on.
     Filling(u32, u64, u32),
+    /// It stores characters of the code's texts at an offset of the frame, from an index on, so many from there on.
+    Spelling(u32, u32, u32),
     /// It is at a stage of a library call.
     Calling(Stage),
     /// It is trapped.

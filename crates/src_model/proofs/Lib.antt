@@ -4,3 +4,11 @@ pub mod TriedTraps
 pub mod TriedRows
 pub mod TriedOrders
 pub mod TriedEndings
+pub mod TriedSchedules
+pub mod Quiet
+pub mod Table
+pub mod Determined
+pub mod Followed
+pub mod Going
+pub mod History
+pub mod Merged

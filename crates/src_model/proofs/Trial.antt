@@ -1,7 +1,27 @@
 -- Words for trials: small units that are written down as trees by hand, and the events of one thread over a memory of its own.
-use Rattle.std.proofs.Common.{ℕ, zero, suc, ◌+◌, ◌-◌, Bool, true, false, List, [], ◌∷◌, length, Some, codes, nat_eq, if◌then◌else◌}
+use Rattle.std.proofs.Common.{ℕ, zero, suc, ◌+◌, ◌-◌, Bool, true, false, List, [], ◌∷◌, length, map, Option, Some, codes, nat_eq, if◌then◌else◌}
+use denote.Hole.Carrier.{hidden}
+use Rattle.core_unit.specs.Library.{takes, row_type}
+use Rattle.core_unit.specs.Shapes.{callee_of}
+use Rattle.core_unit.specs.Stores.{stores}
+use Rattle.core_unit.specs.Typing.{type_of}
+use Rattle.core_unit.specs.declared.body.Initializer.TheBlock.{hidden-the_row-Initializer-0, shape-the_row-Initializer-0}
+use Rattle.core_unit.specs.declared.body.Stmt.TheBlock.{hidden-the_row-Stmt-0, shape-the_row-Stmt-0, hidden-the_row-Stmt-1, shape-the_row-Stmt-1}
+use Rattle.core_unit.specs.declared.expressions.Expr.TheBlock.{hidden-the_row-Expr-0, shape-the_row-Expr-0, hidden-the_row-Place-1, shape-the_row-Place-1, hidden-the_row-Expr-2, shape-the_row-Expr-2}
+use Rattle.eff_types.specs.Comparison.{likeness_of, each_likeness, signature_likeness_of}
+use Rattle.eff_types.specs.Types.{points_to, same}
+use Rattle.eff_types.specs.declared.types.CType.TheBlock.{hidden-the_row-CType-0, shape-the_row-CType-0, hidden-the_row-CType-1, shape-the_row-CType-1}
+use Rattle.mcode.specs.Words.{unpacked}
+use Rattle.src_model.specs.Weights.{size, statement_size}
+use Rattle.ctx_set.specs.declared.steps.StackStep.{StackStep}
+use Rattle.src_model.specs.Runs.{Setting}
+use Rattle.src_model.specs.Scheduled.{Memory, Live, Running, scheduled_over}
+use Rattle.src_model.specs.declared.runs.End.{End}
+use Rattle.src_model.specs.declared.runs.Options.{Options}
+use Rattle.suppress.specs.declared.suppressions.Suppression.{Suppression}
+use Rattle.word_mem.specs.Replay.{place_of, word_after}
+use Rattle.word_mem.specs.declared.event.WordEvent.{WordEvent}
 use Prim.Native.String.{String}
-use Rattle.core_unit.specs.Library.{takes}
 use Rattle.core_unit.specs.Words.{packed}
 use Rattle.core_unit.specs.declared.body.Braces.TheVariants.{Bare}
 use Rattle.core_unit.specs.declared.body.Initializer.{Initializer}
@@ -30,6 +50,11 @@ use Rattle.mcode.specs.declared.events.Ask.TheVariants.{Load, Store, Exchange, F
 use Rattle.mcode.specs.declared.events.Turned.{Turned}
 use Rattle.src_model.specs.Source.{next, after, turned, start, cut}
 use Rattle.src_model.specs.Tasks.{State}
+
+-- what trials compute with
+unfoldable pub computing : ℕ
+unfolding size statement_size stores type_of callee_of row_type points_to likeness_of each_likeness signature_likeness_of same packed unpacked hidden hidden-the_row-CType-0 shape-the_row-CType-0 hidden-the_row-CType-1 shape-the_row-CType-1 hidden-the_row-Expr-0 shape-the_row-Expr-0 hidden-the_row-Place-1 shape-the_row-Place-1 hidden-the_row-Expr-2 shape-the_row-Expr-2 hidden-the_row-Stmt-0 shape-the_row-Stmt-0 hidden-the_row-Stmt-1 shape-the_row-Stmt-1 hidden-the_row-Initializer-0 shape-the_row-Initializer-0
+computing = 0
 
 -- effects
 abbrev pub nonblocking : Effects
@@ -200,3 +225,28 @@ tries u (suc n) cells s event =
 
 abbrev pub turns : ℕ → UnitParts → (function : ℕ) → List Turned
 turns most u function = tries u most (opening u) (start 0 function []) (next u (start 0 function []))
+
+-- a run of `main` without arguments
+abbrev pub defaults : Options
+defaults = record { halt_on_error = true; print_stats = false; events = 10000000; wait_limit = 2000000 }
+
+abbrev pub setting : UnitParts → Options → List Suppression → Setting
+setting u options suppressions = record { unit = u; entry = codes "main"; arguments = []; options = options; suppressions = suppressions }
+
+abbrev pub step : (target site : ℕ) → StackStep
+step target site = record { target = target; site = site }
+
+-- a memory of runs that keeps the words which aren't 0
+abbrev pub noted : List Cell → List WordEvent → List Cell
+noted cells [] = cells
+noted cells (e ∷ es) = noted (cell (place_of e) (word_after e (word_at cells (place_of e))) ∷ cells) es
+
+abbrev pub as_cells : Memory (List Cell)
+as_cells = record { word_at = word_at; after_events = noted }
+
+abbrev pub over : Setting → (schedule : List ℕ) → Running (List Cell)
+over w schedule = scheduled_over as_cells w schedule (opening w.unit)
+
+-- how the threads of a scheduled run end
+abbrev pub ends : Setting → (schedule : List ℕ) → List (Option End)
+ends w schedule = map (λ (t : Live). t.end) (over w schedule).threads

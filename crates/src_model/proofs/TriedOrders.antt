@@ -1,21 +1,14 @@
 -- Orders of evaluation, by the events of small units: operands from the left to the right, what is held across calls, loops and initializers.
 use Rattle.std.proofs.Common.{◌≡◌, refl, ℕ, ◌+◌, ◌*◌, ◌^◌, List, [], ◌∷◌, ◌++◌, Some, None, pos}
-use denote.Hole.Carrier.{hidden}
-use Rattle.arithmetic.specs.declared.traps.TrapKind.TheVariants.{NullCall}
-use Rattle.core_unit.specs.Library.{takes, row_type, void_pointer}
-use Rattle.core_unit.specs.Shapes.{callee_of, pointer_to, array_of}
-use Rattle.core_unit.specs.Stores.{stores}
-use Rattle.core_unit.specs.Typing.{type_of}
-use Rattle.core_unit.specs.Words.{packed}
+use Rattle.arithmetic.specs.declared.traps.TrapKind.TheVariants.{NullAccess, NullCall}
+use Rattle.core_unit.specs.Library.{takes, void_pointer}
+use Rattle.core_unit.specs.Shapes.{pointer_to, array_of}
 use Rattle.core_unit.specs.declared.body.Braces.TheVariants.{Bare}
-use Rattle.core_unit.specs.declared.body.Initializer.TheBlock.{hidden-the_row-Initializer-0, shape-the_row-Initializer-0}
 use Rattle.core_unit.specs.declared.body.Initializer.TheVariants as init
 use Rattle.core_unit.specs.declared.body.LoopKind.TheVariants as loop
 use Rattle.core_unit.specs.declared.body.Stmt.{Stmt}
-use Rattle.core_unit.specs.declared.body.Stmt.TheBlock.{hidden-the_row-Stmt-0, shape-the_row-Stmt-0, hidden-the_row-Stmt-1, shape-the_row-Stmt-1}
 use Rattle.core_unit.specs.declared.body.Stmt.TheVariants as stmt
 use Rattle.core_unit.specs.declared.expressions.Expr.{Expr}
-use Rattle.core_unit.specs.declared.expressions.Expr.TheBlock.{hidden-the_row-Expr-0, shape-the_row-Expr-0, hidden-the_row-Place-1, shape-the_row-Place-1, hidden-the_row-Expr-2, shape-the_row-Expr-2}
 use Rattle.core_unit.specs.declared.expressions.Expr.TheVariants as expr
 use Rattle.core_unit.specs.declared.expressions.Place.{Place}
 use Rattle.core_unit.specs.declared.expressions.Place.TheVariants as place
@@ -33,18 +26,13 @@ use Rattle.core_unit.specs.declared.operators.UnaryOperator.TheVariants as unary
 use Rattle.core_unit.specs.declared.operators.Update.TheVariants as update
 use Rattle.core_unit.specs.declared.tables.FunctionInfo.{FunctionInfo}
 use Rattle.core_unit.specs.declared.tables.UnitParts.{UnitParts}
-use Rattle.eff_types.specs.Comparison.{likeness_of, each_likeness, signature_likeness_of}
-use Rattle.eff_types.specs.Types.{points_to, same}
 use Rattle.eff_types.specs.declared.types.CType.{CType, Char, Int, Struct}
-use Rattle.eff_types.specs.declared.types.CType.TheBlock.{hidden-the_row-CType-0, shape-the_row-CType-0, hidden-the_row-CType-1, shape-the_row-CType-1}
 use Rattle.eff_types.specs.declared.types.CType.TheVariants as a_type
 use Rattle.eff_types.specs.declared.types.FnType.{FnType}
-use Rattle.mcode.specs.Words.{unpacked}
 use Rattle.mcode.specs.declared.events.Ask.{Ask}
 use Rattle.mcode.specs.declared.events.Ask.TheVariants.{Load, Store, Enter, Leave, Reach, Trap, Over}
 use Rattle.mcode.specs.declared.events.Finish.TheVariants.{Returned, Exited, Trapped}
-use Rattle.src_model.specs.Weights.{size, statement_size}
-use Rattle.src_model.proofs.Trial.{blocking, with_effects, definition, unit, int, local, static, value, named, call, arithmetic, run, returns, variable, variable_is, number_word, events, events_from, never}
+use Rattle.src_model.proofs.Trial.{blocking, with_effects, definition, unit, int, local, static, value, named, call, arithmetic, run, returns, variable, variable_is, number_word, events, events_from, never, computing}
 
 abbrev of_int : FnType
 of_int = takes Int (Int ∷ [])
@@ -91,7 +79,7 @@ assigned_element : events 40 (with_static (0 ∷ 0 ∷ number_word 7 ∷ 0 ∷ [
     ∷ run (expr.Assign (element (value 0 Int)) (arithmetic Add (call_f 1 (value 2 Int)) (expr.Load (element (value 1 Int))))) ∷ [])) 0
     ≡ framed (Store 1029 (number_word 1) ∷ Store 1030 (number_word 2) ∷ Store 1031 (number_word 5)
     ∷ Load 1029 ∷ Load 1031 ∷ of_f 1 1032 5 (Load 1030 ∷ Load 3 ∷ Store 2 (number_word 13) ∷ []))
-unfolding size statement_size stores type_of callee_of row_type points_to likeness_of each_likeness signature_likeness_of same packed unpacked hidden hidden-the_row-CType-0 shape-the_row-CType-0 hidden-the_row-CType-1 shape-the_row-CType-1 hidden-the_row-Expr-0 shape-the_row-Expr-0 hidden-the_row-Place-1 shape-the_row-Place-1 hidden-the_row-Expr-2 shape-the_row-Expr-2 hidden-the_row-Stmt-0 shape-the_row-Stmt-0 hidden-the_row-Stmt-1 shape-the_row-Stmt-1 hidden-the_row-Initializer-0 shape-the_row-Initializer-0
+unfolding computing
 assigned_element = refl
 
 -- static struct { int k, m; } s = { 0, 10 }, with p = &s; p->m -= g();
@@ -102,13 +90,13 @@ compound_of_a_member : events 40 (with_static (0 ∷ number_word 10 ∷ []) 1 (
     variable_is 0 to_struct (expr.AddressOf (static 1 (Struct 0)))
     ∷ run (expr.Compound (place.Member (place.Arrow (value 0 to_struct) 0) 1 Int) (update.Arithmetic Subtract Signed) (call_g 1)) ∷ [])) 0
     ≡ framed (Store 1027 (3 * 2 ^ 60 + 1) ∷ Load 1027 ∷ Load 2 ∷ of_g 1 (Store 2 (number_word 7) ∷ []))
-unfolding size statement_size stores type_of callee_of row_type points_to likeness_of each_likeness signature_likeness_of same packed unpacked hidden hidden-the_row-CType-0 shape-the_row-CType-0 hidden-the_row-CType-1 shape-the_row-CType-1 hidden-the_row-Expr-0 shape-the_row-Expr-0 hidden-the_row-Place-1 shape-the_row-Place-1 hidden-the_row-Expr-2 shape-the_row-Expr-2 hidden-the_row-Stmt-0 shape-the_row-Stmt-0 hidden-the_row-Stmt-1 shape-the_row-Stmt-1 hidden-the_row-Initializer-0 shape-the_row-Initializer-0
+unfolding computing
 compound_of_a_member = refl
 
 -- return f(1) + f(f(2)) * g();
 nested_calls : events 40 (with 0 (returns (arithmetic Add (call_f 1 (int 1)) (arithmetic Multiply (call_f 3 (call_f 2 (int 2))) (call_g 4))) ∷ [])) 0
     ≡ Load (2 ^ 20) ∷ Enter 0 0 ∷ of_f 1 1025 1 (of_f 2 1025 2 (of_f 3 1025 3 (of_g 4 (Leave ∷ Store (2 ^ 20) 1 ∷ Over (Exited (pos 14)) ∷ []))))
-unfolding size statement_size stores type_of callee_of row_type points_to likeness_of each_likeness signature_likeness_of same packed unpacked hidden hidden-the_row-CType-0 shape-the_row-CType-0 hidden-the_row-CType-1 shape-the_row-CType-1 hidden-the_row-Expr-0 shape-the_row-Expr-0 hidden-the_row-Place-1 shape-the_row-Place-1 hidden-the_row-Expr-2 shape-the_row-Expr-2 hidden-the_row-Stmt-0 shape-the_row-Stmt-0 hidden-the_row-Stmt-1 shape-the_row-Stmt-1 hidden-the_row-Initializer-0 shape-the_row-Initializer-0
+unfolding computing
 nested_calls = refl
 
 -- int c = 1; return (c ? g : main)(); and int c = 0; return (c ? NULL : f)(f(4));
@@ -119,7 +107,7 @@ chosen_function : events 40 (with 1 (
     variable_is 0 Int (int 1)
     ∷ returns (expr.Call 0 1 (expr.Conditional (value 0 Int) (expr.FunctionPointer (named 2 (takes Int []))) (expr.FunctionPointer (named 0 (takes Int [])))) []) ∷ [])) 0
     ≡ Load (2 ^ 20) ∷ Enter 0 0 ∷ Store 1025 (number_word 1) ∷ Load 1025 ∷ of_g 1 (Leave ∷ Store (2 ^ 20) 1 ∷ Over (Exited (pos 3)) ∷ [])
-unfolding size statement_size stores type_of callee_of row_type points_to likeness_of each_likeness signature_likeness_of same packed unpacked hidden hidden-the_row-CType-0 shape-the_row-CType-0 hidden-the_row-CType-1 shape-the_row-CType-1 hidden-the_row-Expr-0 shape-the_row-Expr-0 hidden-the_row-Place-1 shape-the_row-Place-1 hidden-the_row-Expr-2 shape-the_row-Expr-2 hidden-the_row-Stmt-0 shape-the_row-Stmt-0 hidden-the_row-Stmt-1 shape-the_row-Stmt-1 hidden-the_row-Initializer-0 shape-the_row-Initializer-0
+unfolding computing
 chosen_function = refl
 
 abbrev to_of_int : CType
@@ -129,28 +117,45 @@ other_function : events 40 (with 1 (
     variable_is 0 Int (int 0)
     ∷ returns (expr.Call 0 2 (expr.Conditional (value 0 Int) (expr.Convert cause.Null to_of_int expr.Null) (expr.FunctionPointer (named 1 of_int))) (call_f 1 (int 4) ∷ [])) ∷ [])) 0
     ≡ Load (2 ^ 20) ∷ Enter 0 0 ∷ Store 1025 0 ∷ Load 1025 ∷ of_f 1 1026 4 (of_f 2 1026 5 (Leave ∷ Store (2 ^ 20) 1 ∷ Over (Exited (pos 6)) ∷ []))
-unfolding size statement_size stores type_of callee_of row_type points_to likeness_of each_likeness signature_likeness_of same packed unpacked hidden hidden-the_row-CType-0 shape-the_row-CType-0 hidden-the_row-CType-1 shape-the_row-CType-1 hidden-the_row-Expr-0 shape-the_row-Expr-0 hidden-the_row-Place-1 shape-the_row-Place-1 hidden-the_row-Expr-2 shape-the_row-Expr-2 hidden-the_row-Stmt-0 shape-the_row-Stmt-0 hidden-the_row-Stmt-1 shape-the_row-Stmt-1 hidden-the_row-Initializer-0 shape-the_row-Initializer-0
+unfolding computing
 other_function = refl
 
 -- int (*p)(int) = NULL; p(f(4)); the arguments are evaluated before the callee is found to be null.
 null_after_arguments : events 40 (with 1 (
     variable_is 0 to_of_int (expr.Convert cause.Null to_of_int expr.Null) ∷ run (expr.Call 0 2 (value 0 to_of_int) (call_f 1 (int 4) ∷ [])) ∷ [])) 0
     ≡ Load (2 ^ 20) ∷ Enter 0 0 ∷ Store 1025 0 ∷ Load 1025 ∷ of_f 1 1026 4 (Trap NullCall ∷ Store (2 ^ 20) 1 ∷ Over (Trapped NullCall) ∷ [])
-unfolding size statement_size stores type_of callee_of row_type points_to likeness_of each_likeness signature_likeness_of same packed unpacked hidden hidden-the_row-CType-0 shape-the_row-CType-0 hidden-the_row-CType-1 shape-the_row-CType-1 hidden-the_row-Expr-0 shape-the_row-Expr-0 hidden-the_row-Place-1 shape-the_row-Place-1 hidden-the_row-Expr-2 shape-the_row-Expr-2 hidden-the_row-Stmt-0 shape-the_row-Stmt-0 hidden-the_row-Stmt-1 shape-the_row-Stmt-1 hidden-the_row-Initializer-0 shape-the_row-Initializer-0
+unfolding computing
 null_after_arguments = refl
+
+-- int *p = NULL; *p = g(); finds the value before it is trapped; *p += g(); doesn't.
+abbrev null_pointer : Stmt
+null_pointer = variable_is 0 (pointer_to Int) (expr.Convert cause.Null (pointer_to Int) expr.Null)
+
+abbrev target : Place
+target = place.Indirection (value 0 (pointer_to Int)) Int
+
+assigned_through_null : events 40 (with 1 (null_pointer ∷ run (expr.Assign target (call_g 1)) ∷ [])) 0
+    ≡ Load (2 ^ 20) ∷ Enter 0 0 ∷ Store 1025 0 ∷ Load 1025 ∷ of_g 1 (Trap NullAccess ∷ Store (2 ^ 20) 1 ∷ Over (Trapped NullAccess) ∷ [])
+unfolding computing
+assigned_through_null = refl
+
+compound_through_null : events 40 (with 1 (null_pointer ∷ run (expr.Compound target (update.Arithmetic Add Signed) (call_g 1)) ∷ [])) 0
+    ≡ Load (2 ^ 20) ∷ Enter 0 0 ∷ Store 1025 0 ∷ Load 1025 ∷ Trap NullAccess ∷ Store (2 ^ 20) 1 ∷ Over (Trapped NullAccess) ∷ []
+unfolding computing
+compound_through_null = refl
 
 -- int (*p)(int) = f; return (*p)(4); the word that is loaded is that of a function of the type.
 call_through : events 40 (with 1 (
     variable_is 0 to_of_int (expr.FunctionPointer (named 1 of_int))
     ∷ returns (expr.Call 0 1 (expr.TargetFunction (value 0 to_of_int)) (int 4 ∷ [])) ∷ [])) 0
     ≡ Load (2 ^ 20) ∷ Enter 0 0 ∷ Store 1025 (4 * 2 ^ 60 + 1) ∷ Load 1025 ∷ of_f 1 1026 4 (Leave ∷ Store (2 ^ 20) 1 ∷ Over (Exited (pos 5)) ∷ [])
-unfolding size statement_size stores type_of callee_of row_type points_to likeness_of each_likeness signature_likeness_of same packed unpacked hidden hidden-the_row-CType-0 shape-the_row-CType-0 hidden-the_row-CType-1 shape-the_row-CType-1 hidden-the_row-Expr-0 shape-the_row-Expr-0 hidden-the_row-Place-1 shape-the_row-Place-1 hidden-the_row-Expr-2 shape-the_row-Expr-2 hidden-the_row-Stmt-0 shape-the_row-Stmt-0 hidden-the_row-Stmt-1 shape-the_row-Stmt-1 hidden-the_row-Initializer-0 shape-the_row-Initializer-0
+unfolding computing
 call_through = refl
 
 -- return 2[a]; of the same array
 index_on_the_left : events 20 (with_static (0 ∷ 0 ∷ number_word 7 ∷ 0 ∷ []) 0 (returns (expr.Load (place.Element (int 2) array Right 1 Int)) ∷ [])) 0
     ≡ Load (2 ^ 20) ∷ Enter 0 0 ∷ Load 3 ∷ Leave ∷ Store (2 ^ 20) 1 ∷ Over (Exited (pos 7)) ∷ []
-unfolding size statement_size stores type_of callee_of row_type points_to likeness_of each_likeness signature_likeness_of same packed unpacked hidden hidden-the_row-CType-0 shape-the_row-CType-0 hidden-the_row-CType-1 shape-the_row-CType-1 hidden-the_row-Expr-0 shape-the_row-Expr-0 hidden-the_row-Place-1 shape-the_row-Place-1 hidden-the_row-Expr-2 shape-the_row-Expr-2 hidden-the_row-Stmt-0 shape-the_row-Stmt-0 hidden-the_row-Stmt-1 shape-the_row-Stmt-1 hidden-the_row-Initializer-0 shape-the_row-Initializer-0
+unfolding computing
 index_on_the_left = refl
 
 -- int x = 0; return (x && f(1)) || g(); and return (!x || f(1)) && g();
@@ -159,13 +164,13 @@ x = value 0 Int
 
 and_or : events 40 (with 1 (variable_is 0 Int (int 0) ∷ returns (expr.Logical logical.Or (expr.Logical logical.And x (call_f 1 (int 1))) (call_g 2)) ∷ [])) 0
     ≡ Load (2 ^ 20) ∷ Enter 0 0 ∷ Store 1025 0 ∷ Load 1025 ∷ of_g 2 (Leave ∷ Store (2 ^ 20) 1 ∷ Over (Exited (pos 1)) ∷ [])
-unfolding size statement_size stores type_of callee_of row_type points_to likeness_of each_likeness signature_likeness_of same packed unpacked hidden hidden-the_row-CType-0 shape-the_row-CType-0 hidden-the_row-CType-1 shape-the_row-CType-1 hidden-the_row-Expr-0 shape-the_row-Expr-0 hidden-the_row-Place-1 shape-the_row-Place-1 hidden-the_row-Expr-2 shape-the_row-Expr-2 hidden-the_row-Stmt-0 shape-the_row-Stmt-0 hidden-the_row-Stmt-1 shape-the_row-Stmt-1 hidden-the_row-Initializer-0 shape-the_row-Initializer-0
+unfolding computing
 and_or = refl
 
 or_and : events 40 (with 1 (variable_is 0 Int (int 0)
     ∷ returns (expr.Logical logical.And (expr.Logical logical.Or (expr.Unary unary.Not x) (call_f 1 (int 1))) (call_g 2)) ∷ [])) 0
     ≡ Load (2 ^ 20) ∷ Enter 0 0 ∷ Store 1025 0 ∷ Load 1025 ∷ of_g 2 (Leave ∷ Store (2 ^ 20) 1 ∷ Over (Exited (pos 1)) ∷ [])
-unfolding size statement_size stores type_of callee_of row_type points_to likeness_of each_likeness signature_likeness_of same packed unpacked hidden hidden-the_row-CType-0 shape-the_row-CType-0 hidden-the_row-CType-1 shape-the_row-CType-1 hidden-the_row-Expr-0 shape-the_row-Expr-0 hidden-the_row-Place-1 shape-the_row-Place-1 hidden-the_row-Expr-2 shape-the_row-Expr-2 hidden-the_row-Stmt-0 shape-the_row-Stmt-0 hidden-the_row-Stmt-1 shape-the_row-Stmt-1 hidden-the_row-Initializer-0 shape-the_row-Initializer-0
+unfolding computing
 or_and = refl
 
 -- int x = 3; return x++ * 10 + --x;
@@ -176,7 +181,7 @@ steps = arithmetic Add (arithmetic Multiply (expr.Step (local 0 Int) (update.Ari
 steps_of_numbers : events 40 (with 1 (variable_is 0 Int (int 3) ∷ returns steps ∷ [])) 0
     ≡ Load (2 ^ 20) ∷ Enter 0 0 ∷ Store 1025 (number_word 3) ∷ Load 1025 ∷ Store 1025 (number_word 4) ∷ Load 1025 ∷ Store 1025 (number_word 3)
     ∷ Leave ∷ Store (2 ^ 20) 1 ∷ Over (Exited (pos 33)) ∷ []
-unfolding size statement_size stores type_of callee_of row_type points_to likeness_of each_likeness signature_likeness_of same packed unpacked hidden hidden-the_row-CType-0 shape-the_row-CType-0 hidden-the_row-CType-1 shape-the_row-CType-1 hidden-the_row-Expr-0 shape-the_row-Expr-0 hidden-the_row-Place-1 shape-the_row-Place-1 hidden-the_row-Expr-2 shape-the_row-Expr-2 hidden-the_row-Stmt-0 shape-the_row-Stmt-0 hidden-the_row-Stmt-1 shape-the_row-Stmt-1 hidden-the_row-Initializer-0 shape-the_row-Initializer-0
+unfolding computing
 steps_of_numbers = refl
 
 -- int *p = a; *p++ = g(); p += 2;
@@ -189,13 +194,13 @@ steps_of_pointers : events 40 (with_static (0 ∷ 0 ∷ 0 ∷ 0 ∷ []) 1 (
     ∷ run (expr.Compound (local 0 to_number) (update.Forward 1) (int 2)) ∷ [])) 0
     ≡ framed (Store 1029 (3 * 2 ^ 60 + 1) ∷ Load 1029 ∷ Store 1029 (3 * 2 ^ 60 + 2) ∷ of_g 1 (Store 1 (number_word 3)
     ∷ Load 1029 ∷ Store 1029 (3 * 2 ^ 60 + 4) ∷ []))
-unfolding size statement_size stores type_of callee_of row_type points_to likeness_of each_likeness signature_likeness_of same packed unpacked hidden hidden-the_row-CType-0 shape-the_row-CType-0 hidden-the_row-CType-1 shape-the_row-CType-1 hidden-the_row-Expr-0 shape-the_row-Expr-0 hidden-the_row-Place-1 shape-the_row-Place-1 hidden-the_row-Expr-2 shape-the_row-Expr-2 hidden-the_row-Stmt-0 shape-the_row-Stmt-0 hidden-the_row-Stmt-1 shape-the_row-Stmt-1 hidden-the_row-Initializer-0 shape-the_row-Initializer-0
+unfolding computing
 steps_of_pointers = refl
 
 -- int x = 0; return (x, (void)x, g());
 commas : events 40 (with 1 (variable_is 0 Int (int 0) ∷ returns (expr.Comma (expr.Comma x (expr.Discard x)) (call_g 1)) ∷ [])) 0
     ≡ Load (2 ^ 20) ∷ Enter 0 0 ∷ Store 1025 0 ∷ Load 1025 ∷ Load 1025 ∷ of_g 1 (Leave ∷ Store (2 ^ 20) 1 ∷ Over (Exited (pos 3)) ∷ [])
-unfolding size statement_size stores type_of callee_of row_type points_to likeness_of each_likeness signature_likeness_of same packed unpacked hidden hidden-the_row-CType-0 shape-the_row-CType-0 hidden-the_row-CType-1 shape-the_row-CType-1 hidden-the_row-Expr-0 shape-the_row-Expr-0 hidden-the_row-Place-1 shape-the_row-Place-1 hidden-the_row-Expr-2 shape-the_row-Expr-2 hidden-the_row-Stmt-0 shape-the_row-Stmt-0 hidden-the_row-Stmt-1 shape-the_row-Stmt-1 hidden-the_row-Initializer-0 shape-the_row-Initializer-0
+unfolding computing
 commas = refl
 
 -- for (int i = 0; i < 2; i++) ;
@@ -204,12 +209,12 @@ counted_loop : events 40 (with 1 (stmt.For (variable_is 0 Int (int 0) ∷ [])
     (Some (expr.Step (local 0 Int) (update.Arithmetic Add Signed) Postfix)) stmt.Empty ∷ [])) 0
     ≡ framed (Store 1025 0 ∷ Load (2 ^ 20) ∷ Load 1025 ∷ Load 1025 ∷ Store 1025 (number_word 1) ∷ Load (2 ^ 20) ∷ Load 1025 ∷ Load 1025 ∷ Store 1025 (number_word 2)
     ∷ Load (2 ^ 20) ∷ Load 1025 ∷ [])
-unfolding size statement_size stores type_of callee_of row_type points_to likeness_of each_likeness signature_likeness_of same packed unpacked hidden hidden-the_row-CType-0 shape-the_row-CType-0 hidden-the_row-CType-1 shape-the_row-CType-1 hidden-the_row-Expr-0 shape-the_row-Expr-0 hidden-the_row-Place-1 shape-the_row-Place-1 hidden-the_row-Expr-2 shape-the_row-Expr-2 hidden-the_row-Stmt-0 shape-the_row-Stmt-0 hidden-the_row-Stmt-1 shape-the_row-Stmt-1 hidden-the_row-Initializer-0 shape-the_row-Initializer-0
+unfolding computing
 counted_loop = refl
 
 -- for (;;) { break; x; }
 endless_loop : events 20 (with 1 (stmt.For [] None None (stmt.Block (stmt.Break ∷ run x ∷ [])) ∷ [])) 0 ≡ framed (Load (2 ^ 20) ∷ [])
-unfolding size statement_size stores type_of callee_of row_type points_to likeness_of each_likeness signature_likeness_of same packed unpacked hidden hidden-the_row-CType-0 shape-the_row-CType-0 hidden-the_row-CType-1 shape-the_row-CType-1 hidden-the_row-Expr-0 shape-the_row-Expr-0 hidden-the_row-Place-1 shape-the_row-Place-1 hidden-the_row-Expr-2 shape-the_row-Expr-2 hidden-the_row-Stmt-0 shape-the_row-Stmt-0 hidden-the_row-Stmt-1 shape-the_row-Stmt-1 hidden-the_row-Initializer-0 shape-the_row-Initializer-0
+unfolding computing
 endless_loop = refl
 
 -- int x = 2; do x--; while (x);
@@ -218,7 +223,7 @@ falls = expr.Step (local 0 Int) (update.Arithmetic Subtract Signed) Postfix
 
 do_loop : events 40 (with 1 (variable_is 0 Int (int 2) ∷ stmt.Loop loop.DoWhile x (run falls) ∷ [])) 0
     ≡ framed (Store 1025 (number_word 2) ∷ Load (2 ^ 20) ∷ Load 1025 ∷ Store 1025 (number_word 1) ∷ Load 1025 ∷ Load (2 ^ 20) ∷ Load 1025 ∷ Store 1025 0 ∷ Load 1025 ∷ [])
-unfolding size statement_size stores type_of callee_of row_type points_to likeness_of each_likeness signature_likeness_of same packed unpacked hidden hidden-the_row-CType-0 shape-the_row-CType-0 hidden-the_row-CType-1 shape-the_row-CType-1 hidden-the_row-Expr-0 shape-the_row-Expr-0 hidden-the_row-Place-1 shape-the_row-Place-1 hidden-the_row-Expr-2 shape-the_row-Expr-2 hidden-the_row-Stmt-0 shape-the_row-Stmt-0 hidden-the_row-Stmt-1 shape-the_row-Stmt-1 hidden-the_row-Initializer-0 shape-the_row-Initializer-0
+unfolding computing
 do_loop = refl
 
 -- int x = 1; while (x) { { x--; continue; } x; }; do { continue; x; } while (x); for (;x; x--) continue;
@@ -230,13 +235,13 @@ continued_loops : events 40 (with 1 (variable_is 0 Int (int 1)
     ≡ framed (Store 1025 (number_word 1) ∷ Load (2 ^ 20) ∷ Load 1025 ∷ Load 1025 ∷ Store 1025 0 ∷ Load (2 ^ 20) ∷ Load 1025
     ∷ Load (2 ^ 20) ∷ Load 1025
     ∷ Store 1025 (number_word 1) ∷ Load (2 ^ 20) ∷ Load 1025 ∷ Load 1025 ∷ Store 1025 0 ∷ Load (2 ^ 20) ∷ Load 1025 ∷ [])
-unfolding size statement_size stores type_of callee_of row_type points_to likeness_of each_likeness signature_likeness_of same packed unpacked hidden hidden-the_row-CType-0 shape-the_row-CType-0 hidden-the_row-CType-1 shape-the_row-CType-1 hidden-the_row-Expr-0 shape-the_row-Expr-0 hidden-the_row-Place-1 shape-the_row-Place-1 hidden-the_row-Expr-2 shape-the_row-Expr-2 hidden-the_row-Stmt-0 shape-the_row-Stmt-0 hidden-the_row-Stmt-1 shape-the_row-Stmt-1 hidden-the_row-Initializer-0 shape-the_row-Initializer-0
+unfolding computing
 continued_loops = refl
 
 -- while (1) { while (1) break; break; }
 broken_loops : events 20 (with 0 (stmt.Loop loop.While (int 1) (stmt.Block (stmt.Loop loop.While (int 1) stmt.Break ∷ stmt.Break ∷ [])) ∷ [])) 0
     ≡ framed (Load (2 ^ 20) ∷ Load (2 ^ 20) ∷ [])
-unfolding size statement_size stores type_of callee_of row_type points_to likeness_of each_likeness signature_likeness_of same packed unpacked hidden hidden-the_row-CType-0 shape-the_row-CType-0 hidden-the_row-CType-1 shape-the_row-CType-1 hidden-the_row-Expr-0 shape-the_row-Expr-0 hidden-the_row-Place-1 shape-the_row-Place-1 hidden-the_row-Expr-2 shape-the_row-Expr-2 hidden-the_row-Stmt-0 shape-the_row-Stmt-0 hidden-the_row-Stmt-1 shape-the_row-Stmt-1 hidden-the_row-Initializer-0 shape-the_row-Initializer-0
+unfolding computing
 broken_loops = refl
 
 -- int x = 0; if (x) g(); else f(1); if (!x) return 5; x;
@@ -244,7 +249,7 @@ branches : events 40 (with 1 (variable_is 0 Int (int 0)
     ∷ stmt.If x (run (call_g 1)) (run (call_f 2 (int 1)) ∷ [])
     ∷ stmt.If (expr.Unary unary.Not x) (returns (int 5)) [] ∷ run x ∷ [])) 0
     ≡ Load (2 ^ 20) ∷ Enter 0 0 ∷ Store 1025 0 ∷ Load 1025 ∷ of_f 2 1026 1 (Load 1025 ∷ Leave ∷ Store (2 ^ 20) 1 ∷ Over (Exited (pos 5)) ∷ [])
-unfolding size statement_size stores type_of callee_of row_type points_to likeness_of each_likeness signature_likeness_of same packed unpacked hidden hidden-the_row-CType-0 shape-the_row-CType-0 hidden-the_row-CType-1 shape-the_row-CType-1 hidden-the_row-Expr-0 shape-the_row-Expr-0 hidden-the_row-Place-1 shape-the_row-Place-1 hidden-the_row-Expr-2 shape-the_row-Expr-2 hidden-the_row-Stmt-0 shape-the_row-Stmt-0 hidden-the_row-Stmt-1 shape-the_row-Stmt-1 hidden-the_row-Initializer-0 shape-the_row-Initializer-0
+unfolding computing
 branches = refl
 
 -- int b[4] = { f(1), 2 }; char s[4] = "hi"; int z[2] = {0}; int u[2]; static int n;
@@ -257,7 +262,7 @@ initializers : events 40 (with 12 (
     ≡ framed (of_f 1 1037 1 (Store 1025 (number_word 2) ∷ Store 1026 (number_word 2) ∷ Store 1027 0 ∷ Store 1028 0
     ∷ Store 1029 (number_word 104) ∷ Store 1030 (number_word 105) ∷ Store 1031 0 ∷ Store 1032 0
     ∷ Store 1033 0 ∷ Store 1034 0 ∷ Store 1035 (2 ^ 60) ∷ Store 1036 (2 ^ 60) ∷ []))
-unfolding size statement_size stores type_of callee_of row_type points_to likeness_of each_likeness signature_likeness_of same packed unpacked hidden hidden-the_row-CType-0 shape-the_row-CType-0 hidden-the_row-CType-1 shape-the_row-CType-1 hidden-the_row-Expr-0 shape-the_row-Expr-0 hidden-the_row-Place-1 shape-the_row-Place-1 hidden-the_row-Expr-2 shape-the_row-Expr-2 hidden-the_row-Stmt-0 shape-the_row-Stmt-0 hidden-the_row-Stmt-1 shape-the_row-Stmt-1 hidden-the_row-Initializer-0 shape-the_row-Initializer-0
+unfolding computing
 initializers = refl
 
 -- _Thread_local int t; void *w(void *p) { t = 1; return NULL; } in threads 0 and 2
@@ -267,12 +272,12 @@ with_thread_local = unit (definition "w" (takes void_pointer (void_pointer ∷ [
 
 thread_local_of_0 : events_from never 20 with_thread_local [] 0 0 (0 ∷ [])
     ≡ Load (2 ^ 20) ∷ Enter 0 0 ∷ Store 1025 0 ∷ Store 4 (number_word 1) ∷ Leave ∷ Store (2 ^ 20) 1 ∷ Over (Exited (pos 0)) ∷ []
-unfolding size statement_size stores type_of callee_of row_type points_to likeness_of each_likeness signature_likeness_of same packed unpacked hidden hidden-the_row-CType-0 shape-the_row-CType-0 hidden-the_row-CType-1 shape-the_row-CType-1 hidden-the_row-Expr-0 shape-the_row-Expr-0 hidden-the_row-Place-1 shape-the_row-Place-1 hidden-the_row-Expr-2 shape-the_row-Expr-2 hidden-the_row-Stmt-0 shape-the_row-Stmt-0 hidden-the_row-Stmt-1 shape-the_row-Stmt-1 hidden-the_row-Initializer-0 shape-the_row-Initializer-0
+unfolding computing
 thread_local_of_0 = refl
 
 thread_local_of_2 : events_from never 20 with_thread_local [] 2 0 (0 ∷ [])
     ≡ Load (2 ^ 20) ∷ Enter 0 0 ∷ Store 11265 0 ∷ Store 10244 (number_word 1) ∷ Leave ∷ Store (2 ^ 20 + 130) 0 ∷ Store (2 ^ 20 + 66) 1 ∷ Over Returned ∷ []
-unfolding size statement_size stores type_of callee_of row_type points_to likeness_of each_likeness signature_likeness_of same packed unpacked hidden hidden-the_row-CType-0 shape-the_row-CType-0 hidden-the_row-CType-1 shape-the_row-CType-1 hidden-the_row-Expr-0 shape-the_row-Expr-0 hidden-the_row-Place-1 shape-the_row-Place-1 hidden-the_row-Expr-2 shape-the_row-Expr-2 hidden-the_row-Stmt-0 shape-the_row-Stmt-0 hidden-the_row-Stmt-1 shape-the_row-Stmt-1 hidden-the_row-Initializer-0 shape-the_row-Initializer-0
+unfolding computing
 thread_local_of_2 = refl
 
 -- A blocking first function is reached from site 0, before its parameters are stored: int b(int x, int y) [[clang::blocking]] { return y; }
@@ -280,5 +285,5 @@ blocking_start : events_from never 20 (unit (definition "b" (with_effects blocki
     (number_word 4 ∷ number_word 9 ∷ [])
     ≡ Load (2 ^ 20) ∷ Enter 0 0 ∷ Reach 0 0 ∷ Store 1025 (number_word 4) ∷ Store 1026 (number_word 9) ∷ Load 1026 ∷ Leave ∷ Store (2 ^ 20) 1
     ∷ Over (Exited (pos 9)) ∷ []
-unfolding size statement_size stores type_of callee_of row_type points_to likeness_of each_likeness signature_likeness_of same packed unpacked hidden hidden-the_row-CType-0 shape-the_row-CType-0 hidden-the_row-CType-1 shape-the_row-CType-1 hidden-the_row-Expr-0 shape-the_row-Expr-0 hidden-the_row-Place-1 shape-the_row-Place-1 hidden-the_row-Expr-2 shape-the_row-Expr-2 hidden-the_row-Stmt-0 shape-the_row-Stmt-0 hidden-the_row-Stmt-1 shape-the_row-Stmt-1 hidden-the_row-Initializer-0 shape-the_row-Initializer-0
+unfolding computing
 blocking_start = refl

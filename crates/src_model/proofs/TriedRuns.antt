@@ -1,32 +1,19 @@
 -- The events of small whole units, with their counts. The halt word stands at 2^20; the stack of thread 0 begins 1,024 words behind the words of
 -- static storage, of which the first has address 1.
 use Rattle.std.proofs.Common.{◌≡◌, refl, ◌^◌, [], ◌∷◌, replicate, pos}
-use denote.Hole.Carrier.{hidden}
-use Rattle.core_unit.specs.Library.{takes, row_type}
-use Rattle.core_unit.specs.Shapes.{callee_of}
-use Rattle.core_unit.specs.Stores.{stores}
-use Rattle.core_unit.specs.Typing.{type_of}
-use Rattle.core_unit.specs.Words.{packed}
-use Rattle.core_unit.specs.declared.body.Initializer.TheBlock.{hidden-the_row-Initializer-0, shape-the_row-Initializer-0}
+use Rattle.core_unit.specs.Library.{takes}
 use Rattle.core_unit.specs.declared.body.LoopKind.TheVariants as loop
-use Rattle.core_unit.specs.declared.body.Stmt.TheBlock.{hidden-the_row-Stmt-0, shape-the_row-Stmt-0, hidden-the_row-Stmt-1, shape-the_row-Stmt-1}
 use Rattle.core_unit.specs.declared.body.Stmt.TheVariants as stmt
-use Rattle.core_unit.specs.declared.expressions.Expr.TheBlock.{hidden-the_row-Expr-0, shape-the_row-Expr-0, hidden-the_row-Place-1, shape-the_row-Place-1, hidden-the_row-Expr-2, shape-the_row-Expr-2}
 use Rattle.core_unit.specs.declared.expressions.Expr.TheVariants as expr
 use Rattle.core_unit.specs.declared.expressions.Place.TheVariants as place
 use Rattle.core_unit.specs.declared.operators.ArithmeticOperator.TheVariants.{Remainder, Add}
 use Rattle.core_unit.specs.declared.operators.Sign.TheVariants.{Unsigned as Without}
 use Rattle.core_unit.specs.declared.tables.UnitParts.{UnitParts}
-use Rattle.eff_types.specs.Comparison.{likeness_of, each_likeness, signature_likeness_of}
-use Rattle.eff_types.specs.Types.{points_to, same}
 use Rattle.eff_types.specs.declared.types.CType.{Void, Int}
-use Rattle.eff_types.specs.declared.types.CType.TheBlock.{hidden-the_row-CType-0, shape-the_row-CType-0, hidden-the_row-CType-1, shape-the_row-CType-1}
 use Rattle.eff_types.specs.declared.types.FnType.{FnType}
-use Rattle.mcode.specs.Words.{unpacked}
 use Rattle.mcode.specs.declared.events.Ask.TheVariants.{Load, Store, Enter, Leave, Reach, Out, Over}
 use Rattle.mcode.specs.declared.events.Finish.TheVariants.{Exited, Halted}
-use Rattle.src_model.specs.Weights.{size, statement_size}
-use Rattle.src_model.proofs.Trial.{nonblocking, blocking, with_effects, definition, noreturn, unit, main_of, int, local, value, call, library_call, arithmetic, run, returns, variable_is, number_word, events, events_until, at_reach}
+use Rattle.src_model.proofs.Trial.{nonblocking, blocking, with_effects, definition, noreturn, unit, main_of, int, local, value, call, library_call, arithmetic, run, returns, variable_is, number_word, events, events_until, at_reach, computing}
 
 abbrev void : FnType
 void = takes Void []
@@ -42,7 +29,7 @@ first_unit = unit (
 -- Seven events: the report ends the thread.
 first_events : events_until (at_reach 4096) 20 first_unit 1
     ≡ Load (2 ^ 20) ∷ Enter 1 0 ∷ Load (2 ^ 20) ∷ Enter 0 2 ∷ Load (2 ^ 20) ∷ Reach 4096 1 ∷ Store (2 ^ 20) 1 ∷ Over Halted ∷ []
-unfolding size statement_size stores type_of callee_of row_type points_to likeness_of each_likeness signature_likeness_of same packed unpacked hidden hidden-the_row-CType-0 shape-the_row-CType-0 hidden-the_row-CType-1 shape-the_row-CType-1 hidden-the_row-Expr-0 shape-the_row-Expr-0 hidden-the_row-Place-1 shape-the_row-Place-1 hidden-the_row-Expr-2 shape-the_row-Expr-2 hidden-the_row-Stmt-0 shape-the_row-Stmt-0 hidden-the_row-Stmt-1 shape-the_row-Stmt-1 hidden-the_row-Initializer-0 shape-the_row-Initializer-0
+unfolding computing
 first_events = refl
 
 -- void slow(void) [[clang::blocking]] { }
@@ -58,20 +45,20 @@ blocking_unit = unit (
 -- Eight events: the blocking function is entered, and then reached.
 blocking_events : events_until (at_reach 0) 20 blocking_unit 2
     ≡ Load (2 ^ 20) ∷ Enter 2 0 ∷ Load (2 ^ 20) ∷ Enter 1 2 ∷ Load (2 ^ 20) ∷ Enter 0 1 ∷ Reach 0 1 ∷ Store (2 ^ 20) 1 ∷ Over Halted ∷ []
-unfolding size statement_size stores type_of callee_of row_type points_to likeness_of each_likeness signature_likeness_of same packed unpacked hidden hidden-the_row-CType-0 shape-the_row-CType-0 hidden-the_row-CType-1 shape-the_row-CType-1 hidden-the_row-Expr-0 shape-the_row-Expr-0 hidden-the_row-Place-1 shape-the_row-Place-1 hidden-the_row-Expr-2 shape-the_row-Expr-2 hidden-the_row-Stmt-0 shape-the_row-Stmt-0 hidden-the_row-Stmt-1 shape-the_row-Stmt-1 hidden-the_row-Initializer-0 shape-the_row-Initializer-0
+unfolding computing
 blocking_events = refl
 
 -- the same, where no report ends the thread
 blocking_events_on : events 20 blocking_unit 2
     ≡ Load (2 ^ 20) ∷ Enter 2 0 ∷ Load (2 ^ 20) ∷ Enter 1 2 ∷ Load (2 ^ 20) ∷ Enter 0 1 ∷ Reach 0 1 ∷ Leave ∷ Leave ∷ Leave ∷ Store (2 ^ 20) 1
     ∷ Over (Exited (pos 0)) ∷ []
-unfolding size statement_size stores type_of callee_of row_type points_to likeness_of each_likeness signature_likeness_of same packed unpacked hidden hidden-the_row-CType-0 shape-the_row-CType-0 hidden-the_row-CType-1 shape-the_row-CType-1 hidden-the_row-Expr-0 shape-the_row-Expr-0 hidden-the_row-Place-1 shape-the_row-Place-1 hidden-the_row-Expr-2 shape-the_row-Expr-2 hidden-the_row-Stmt-0 shape-the_row-Stmt-0 hidden-the_row-Stmt-1 shape-the_row-Stmt-1 hidden-the_row-Initializer-0 shape-the_row-Initializer-0
+unfolding computing
 blocking_events_on = refl
 
 -- int main(void) { while (1) ; }
 -- Of ten events eight are turns of the loop.
 endless_events : events 10 (main_of 0 (stmt.Loop loop.While (int 1) stmt.Empty ∷ [])) 0 ≡ Load (2 ^ 20) ∷ Enter 0 0 ∷ replicate 8 (Load (2 ^ 20))
-unfolding size statement_size stores type_of callee_of row_type points_to likeness_of each_likeness signature_likeness_of same packed unpacked hidden hidden-the_row-CType-0 shape-the_row-CType-0 hidden-the_row-CType-1 shape-the_row-CType-1 hidden-the_row-Expr-0 shape-the_row-Expr-0 hidden-the_row-Place-1 shape-the_row-Place-1 hidden-the_row-Expr-2 shape-the_row-Expr-2 hidden-the_row-Stmt-0 shape-the_row-Stmt-0 hidden-the_row-Stmt-1 shape-the_row-Stmt-1 hidden-the_row-Initializer-0 shape-the_row-Initializer-0
+unfolding computing
 endless_events = refl
 
 -- int g[8];
@@ -90,7 +77,7 @@ generated_unit = unit (
 generated_events : events 20 generated_unit 1
     ≡ Load (2 ^ 20) ∷ Enter 1 0 ∷ Store 1033 0 ∷ Load 1033 ∷ Load (2 ^ 20) ∷ Enter 0 1 ∷ Store 1034 0 ∷ Load 1034 ∷ Leave ∷ Store 1033 (number_word 1)
     ∷ Load 1033 ∷ Leave ∷ Store (2 ^ 20) 1 ∷ Over (Exited (pos 1)) ∷ []
-unfolding size statement_size stores type_of callee_of row_type points_to likeness_of each_likeness signature_likeness_of same packed unpacked hidden hidden-the_row-CType-0 shape-the_row-CType-0 hidden-the_row-CType-1 shape-the_row-CType-1 hidden-the_row-Expr-0 shape-the_row-Expr-0 hidden-the_row-Place-1 shape-the_row-Place-1 hidden-the_row-Expr-2 shape-the_row-Expr-2 hidden-the_row-Stmt-0 shape-the_row-Stmt-0 hidden-the_row-Stmt-1 shape-the_row-Stmt-1 hidden-the_row-Initializer-0 shape-the_row-Initializer-0
+unfolding computing
 generated_events = refl
 
 -- _Noreturn void die(void) { puts("bad"); exit(1); }
@@ -105,7 +92,7 @@ dying_unit = unit (
 
 dying_events : events_until (at_reach 4104) 20 dying_unit 2
     ≡ Load (2 ^ 20) ∷ Enter 2 0 ∷ Load (2 ^ 20) ∷ Enter 1 4 ∷ Load (2 ^ 20) ∷ Enter 0 3 ∷ Load (2 ^ 20) ∷ Reach 4104 1 ∷ Store (2 ^ 20) 1 ∷ Over Halted ∷ []
-unfolding size statement_size stores type_of callee_of row_type points_to likeness_of each_likeness signature_likeness_of same packed unpacked hidden hidden-the_row-CType-0 shape-the_row-CType-0 hidden-the_row-CType-1 shape-the_row-CType-1 hidden-the_row-Expr-0 shape-the_row-Expr-0 hidden-the_row-Place-1 shape-the_row-Place-1 hidden-the_row-Expr-2 shape-the_row-Expr-2 hidden-the_row-Stmt-0 shape-the_row-Stmt-0 hidden-the_row-Stmt-1 shape-the_row-Stmt-1 hidden-the_row-Initializer-0 shape-the_row-Initializer-0
+unfolding computing
 dying_events = refl
 
 -- Without a report, the text is written and the thread exits.
@@ -113,5 +100,5 @@ dying_events_on : events 40 dying_unit 2
     ≡ Load (2 ^ 20) ∷ Enter 2 0 ∷ Load (2 ^ 20) ∷ Enter 1 4 ∷ Load (2 ^ 20) ∷ Enter 0 3 ∷ Load (2 ^ 20) ∷ Reach 4104 1
     ∷ Load 1 ∷ Out 98 ∷ Load 2 ∷ Out 97 ∷ Load 3 ∷ Out 100 ∷ Load 4 ∷ Out 10
     ∷ Load (2 ^ 20) ∷ Reach 4109 2 ∷ Store (2 ^ 20) 1 ∷ Over (Exited (pos 1)) ∷ []
-unfolding size statement_size stores type_of callee_of row_type points_to likeness_of each_likeness signature_likeness_of same packed unpacked hidden hidden-the_row-CType-0 shape-the_row-CType-0 hidden-the_row-CType-1 shape-the_row-CType-1 hidden-the_row-Expr-0 shape-the_row-Expr-0 hidden-the_row-Place-1 shape-the_row-Place-1 hidden-the_row-Expr-2 shape-the_row-Expr-2 hidden-the_row-Stmt-0 shape-the_row-Stmt-0 hidden-the_row-Stmt-1 shape-the_row-Stmt-1 hidden-the_row-Initializer-0 shape-the_row-Initializer-0
+unfolding computing
 dying_events_on = refl

@@ -1,18 +1,11 @@
 -- Each kind of trap by one small unit. Of each, thread 0 runs `main`; the stack begins at 1025 where there are no static words.
 use Rattle.std.proofs.Common.{◌≡◌, refl, ℕ, ◌+◌, ◌*◌, ◌^◌, List, [], ◌∷◌, zero, suc, replicate, pos}
-use denote.Hole.Carrier.{hidden}
 use Rattle.arithmetic.specs.declared.traps.TrapKind.TheVariants.{NullAccess, BadAccess, BadPointer, BadWord, Overflow, Division, Shift, NullCall, StackOverflow, BadFree, BadUnlock, NoreturnReturned, NoValue, Abort}
-use Rattle.core_unit.specs.Library.{takes, row_type, void_pointer}
-use Rattle.core_unit.specs.Shapes.{callee_of, pointer_to, array_of}
-use Rattle.core_unit.specs.Stores.{stores}
-use Rattle.core_unit.specs.Typing.{type_of}
-use Rattle.core_unit.specs.Words.{packed}
-use Rattle.core_unit.specs.declared.body.Initializer.TheBlock.{hidden-the_row-Initializer-0, shape-the_row-Initializer-0}
+use Rattle.core_unit.specs.Library.{takes, void_pointer}
+use Rattle.core_unit.specs.Shapes.{pointer_to, array_of}
 use Rattle.core_unit.specs.declared.body.Initializer.TheVariants as init
 use Rattle.core_unit.specs.declared.body.Stmt.{Stmt}
-use Rattle.core_unit.specs.declared.body.Stmt.TheBlock.{hidden-the_row-Stmt-0, shape-the_row-Stmt-0, hidden-the_row-Stmt-1, shape-the_row-Stmt-1}
 use Rattle.core_unit.specs.declared.expressions.Expr.{Expr}
-use Rattle.core_unit.specs.declared.expressions.Expr.TheBlock.{hidden-the_row-Expr-0, shape-the_row-Expr-0, hidden-the_row-Place-1, shape-the_row-Place-1, hidden-the_row-Expr-2, shape-the_row-Expr-2}
 use Rattle.core_unit.specs.declared.expressions.Expr.TheVariants as expr
 use Rattle.core_unit.specs.declared.expressions.Place.TheVariants as place
 use Rattle.core_unit.specs.declared.operators.ArithmeticOperator.TheVariants.{Divide, Add, LeftShift}
@@ -25,21 +18,16 @@ use Rattle.core_unit.specs.declared.operators.Update.TheVariants as update
 use Rattle.core_unit.specs.declared.tables.FunctionInfo.{FunctionInfo}
 use Rattle.core_unit.specs.declared.tables.UnitParts.{UnitParts}
 use Rattle.core_unit.specs.declared.words.Word.TheVariants.{Zero}
-use Rattle.eff_types.specs.Comparison.{likeness_of, each_likeness, signature_likeness_of}
-use Rattle.eff_types.specs.Types.{points_to, same}
 use Rattle.eff_types.specs.declared.types.CType.{CType, Void, Char, Int, Mutex, Struct}
-use Rattle.eff_types.specs.declared.types.CType.TheBlock.{hidden-the_row-CType-0, shape-the_row-CType-0, hidden-the_row-CType-1, shape-the_row-CType-1}
 use Rattle.eff_types.specs.declared.types.CType.TheVariants as a_type
 use Rattle.eff_types.specs.declared.types.FnType.{FnType}
-use Rattle.mcode.specs.Words.{unpacked}
 use Rattle.mcode.specs.declared.events.Ask.{Ask}
 use Rattle.mcode.specs.declared.events.Ask.TheVariants.{Load, Store, Exchange, Enter, Leave, Reach, Out, Trap, Over}
 use Rattle.mcode.specs.declared.events.Finish.TheVariants.{Exited, Trapped}
-use Rattle.src_model.specs.Weights.{size, statement_size}
 use Rattle.mcode.specs.declared.stages.Stage.TheVariants.{EndText}
 use Rattle.src_model.specs.Source.{next, start}
 use Rattle.src_model.specs.Tasks.{Hold, In, Now, State}
-use Rattle.src_model.proofs.Trial.{nonblocking, with_effects, definition, noreturn, unit, main_of, int, local, static, value, named, call, library_call, arithmetic, run, returns, variable, variable_is, number_word, events}
+use Rattle.src_model.proofs.Trial.{nonblocking, with_effects, definition, noreturn, unit, main_of, int, local, static, value, named, call, library_call, arithmetic, run, returns, variable, variable_is, number_word, events, computing}
 
 abbrev void : FnType
 void = takes Void []
@@ -49,7 +37,7 @@ null_access : events 20 (main_of 1 (
     variable_is 0 (pointer_to Int) (expr.Convert cause.Null (pointer_to Int) expr.Null)
     ∷ returns (expr.Load (place.Indirection (value 0 (pointer_to Int)) Int)) ∷ [])) 0
     ≡ Load (2 ^ 20) ∷ Enter 0 0 ∷ Store 1025 0 ∷ Load 1025 ∷ Trap NullAccess ∷ Store (2 ^ 20) 1 ∷ Over (Trapped NullAccess) ∷ []
-unfolding size statement_size stores type_of callee_of row_type points_to likeness_of each_likeness signature_likeness_of same packed unpacked hidden hidden-the_row-CType-0 shape-the_row-CType-0 hidden-the_row-CType-1 shape-the_row-CType-1 hidden-the_row-Expr-0 shape-the_row-Expr-0 hidden-the_row-Place-1 shape-the_row-Place-1 hidden-the_row-Expr-2 shape-the_row-Expr-2 hidden-the_row-Stmt-0 shape-the_row-Stmt-0 hidden-the_row-Stmt-1 shape-the_row-Stmt-1 hidden-the_row-Initializer-0 shape-the_row-Initializer-0
+unfolding computing
 null_access = refl
 
 -- static int a[1];
@@ -66,18 +54,18 @@ with_array items = unit (definition "main" (takes Int []) 0 items ∷ []) (0 ∷
 -- *(a + 1048575) = 2; is trapped in place of its store.
 bad_access : events 20 (with_array (run (expr.Assign (place.Indirection (moved (int 1048575)) Int) (int 2)) ∷ [])) 0
     ≡ Load (2 ^ 20) ∷ Enter 0 0 ∷ Trap BadAccess ∷ Store (2 ^ 20) 1 ∷ Over (Trapped BadAccess) ∷ []
-unfolding size statement_size stores type_of callee_of row_type points_to likeness_of each_likeness signature_likeness_of same packed unpacked hidden hidden-the_row-CType-0 shape-the_row-CType-0 hidden-the_row-CType-1 shape-the_row-CType-1 hidden-the_row-Expr-0 shape-the_row-Expr-0 hidden-the_row-Place-1 shape-the_row-Place-1 hidden-the_row-Expr-2 shape-the_row-Expr-2 hidden-the_row-Stmt-0 shape-the_row-Stmt-0 hidden-the_row-Stmt-1 shape-the_row-Stmt-1 hidden-the_row-Initializer-0 shape-the_row-Initializer-0
+unfolding computing
 bad_access = refl
 
 -- a - 1 points nowhere, and so does a + 1048576.
 bad_pointer : events 20 (with_array (run (expr.Binary (binary.PointerMinus 1) array (int 1)) ∷ [])) 0
     ≡ Load (2 ^ 20) ∷ Enter 0 0 ∷ Trap BadPointer ∷ Store (2 ^ 20) 1 ∷ Over (Trapped BadPointer) ∷ []
-unfolding size statement_size stores type_of callee_of row_type points_to likeness_of each_likeness signature_likeness_of same packed unpacked hidden hidden-the_row-CType-0 shape-the_row-CType-0 hidden-the_row-CType-1 shape-the_row-CType-1 hidden-the_row-Expr-0 shape-the_row-Expr-0 hidden-the_row-Place-1 shape-the_row-Place-1 hidden-the_row-Expr-2 shape-the_row-Expr-2 hidden-the_row-Stmt-0 shape-the_row-Stmt-0 hidden-the_row-Stmt-1 shape-the_row-Stmt-1 hidden-the_row-Initializer-0 shape-the_row-Initializer-0
+unfolding computing
 bad_pointer = refl
 
 bad_pointer_above : events 20 (with_array (run (moved (int 1048576)) ∷ [])) 0
     ≡ Load (2 ^ 20) ∷ Enter 0 0 ∷ Trap BadPointer ∷ Store (2 ^ 20) 1 ∷ Over (Trapped BadPointer) ∷ []
-unfolding size statement_size stores type_of callee_of row_type points_to likeness_of each_likeness signature_likeness_of same packed unpacked hidden hidden-the_row-CType-0 shape-the_row-CType-0 hidden-the_row-CType-1 shape-the_row-CType-1 hidden-the_row-Expr-0 shape-the_row-Expr-0 hidden-the_row-Place-1 shape-the_row-Place-1 hidden-the_row-Expr-2 shape-the_row-Expr-2 hidden-the_row-Stmt-0 shape-the_row-Stmt-0 hidden-the_row-Stmt-1 shape-the_row-Stmt-1 hidden-the_row-Initializer-0 shape-the_row-Initializer-0
+unfolding computing
 bad_pointer_above = refl
 
 -- struct s { int m; } *p; .. &p->m of a null p: the address of a member is found by arithmetic, also at offset 0.
@@ -85,13 +73,13 @@ bad_member : events 20 (main_of 1 (
     variable_is 0 (pointer_to (Struct 0)) expr.Null
     ∷ run (expr.AddressOf (place.Member (place.Arrow (value 0 (pointer_to (Struct 0))) 0) 0 Int)) ∷ [])) 0
     ≡ Load (2 ^ 20) ∷ Enter 0 0 ∷ Store 1025 0 ∷ Load 1025 ∷ Trap BadPointer ∷ Store (2 ^ 20) 1 ∷ Over (Trapped BadPointer) ∷ []
-unfolding size statement_size stores type_of callee_of row_type points_to likeness_of each_likeness signature_likeness_of same packed unpacked hidden hidden-the_row-CType-0 shape-the_row-CType-0 hidden-the_row-CType-1 shape-the_row-CType-1 hidden-the_row-Expr-0 shape-the_row-Expr-0 hidden-the_row-Place-1 shape-the_row-Place-1 hidden-the_row-Expr-2 shape-the_row-Expr-2 hidden-the_row-Stmt-0 shape-the_row-Stmt-0 hidden-the_row-Stmt-1 shape-the_row-Stmt-1 hidden-the_row-Initializer-0 shape-the_row-Initializer-0
+unfolding computing
 bad_member = refl
 
 -- int x; return x;
 bad_word : events 20 (main_of 1 (variable 0 Int (init.Absent 1) ∷ returns (value 0 Int) ∷ [])) 0
     ≡ Load (2 ^ 20) ∷ Enter 0 0 ∷ Store 1025 (2 ^ 60) ∷ Load 1025 ∷ Trap BadWord ∷ Store (2 ^ 20) 1 ∷ Over (Trapped BadWord) ∷ []
-unfolding size statement_size stores type_of callee_of row_type points_to likeness_of each_likeness signature_likeness_of same packed unpacked hidden hidden-the_row-CType-0 shape-the_row-CType-0 hidden-the_row-CType-1 shape-the_row-CType-1 hidden-the_row-Expr-0 shape-the_row-Expr-0 hidden-the_row-Place-1 shape-the_row-Place-1 hidden-the_row-Expr-2 shape-the_row-Expr-2 hidden-the_row-Stmt-0 shape-the_row-Stmt-0 hidden-the_row-Stmt-1 shape-the_row-Stmt-1 hidden-the_row-Initializer-0 shape-the_row-Initializer-0
+unfolding computing
 bad_word = refl
 
 -- int x = 2147483647; x = x + 1; return 0;
@@ -99,7 +87,7 @@ overflow : events 20 (main_of 1 (
     variable_is 0 Int (int 2147483647)
     ∷ run (expr.Assign (local 0 Int) (arithmetic Add (value 0 Int) (int 1))) ∷ returns (int 0) ∷ [])) 0
     ≡ Load (2 ^ 20) ∷ Enter 0 0 ∷ Store 1025 (number_word 2147483647) ∷ Load 1025 ∷ Trap Overflow ∷ Store (2 ^ 20) 1 ∷ Over (Trapped Overflow) ∷ []
-unfolding size statement_size stores type_of callee_of row_type points_to likeness_of each_likeness signature_likeness_of same packed unpacked hidden hidden-the_row-CType-0 shape-the_row-CType-0 hidden-the_row-CType-1 shape-the_row-CType-1 hidden-the_row-Expr-0 shape-the_row-Expr-0 hidden-the_row-Place-1 shape-the_row-Place-1 hidden-the_row-Expr-2 shape-the_row-Expr-2 hidden-the_row-Stmt-0 shape-the_row-Stmt-0 hidden-the_row-Stmt-1 shape-the_row-Stmt-1 hidden-the_row-Initializer-0 shape-the_row-Initializer-0
+unfolding computing
 overflow = refl
 
 -- char c = 2147483647; c++; a `char` has the range of an `int`.
@@ -107,18 +95,18 @@ overflow_of_a_char : events 20 (main_of 1 (
     variable_is 0 Char (expr.Convert cause.Implicit Char (int 2147483647))
     ∷ run (expr.Step (local 0 Char) (update.Arithmetic Add Signed) Postfix) ∷ [])) 0
     ≡ Load (2 ^ 20) ∷ Enter 0 0 ∷ Store 1025 (number_word 2147483647) ∷ Load 1025 ∷ Trap Overflow ∷ Store (2 ^ 20) 1 ∷ Over (Trapped Overflow) ∷ []
-unfolding size statement_size stores type_of callee_of row_type points_to likeness_of each_likeness signature_likeness_of same packed unpacked hidden hidden-the_row-CType-0 shape-the_row-CType-0 hidden-the_row-CType-1 shape-the_row-CType-1 hidden-the_row-Expr-0 shape-the_row-Expr-0 hidden-the_row-Place-1 shape-the_row-Place-1 hidden-the_row-Expr-2 shape-the_row-Expr-2 hidden-the_row-Stmt-0 shape-the_row-Stmt-0 hidden-the_row-Stmt-1 shape-the_row-Stmt-1 hidden-the_row-Initializer-0 shape-the_row-Initializer-0
+unfolding computing
 overflow_of_a_char = refl
 
 -- return 1 / 0; and return 1 << 32;
 division : events 20 (main_of 0 (returns (arithmetic Divide (int 1) (int 0)) ∷ [])) 0
     ≡ Load (2 ^ 20) ∷ Enter 0 0 ∷ Trap Division ∷ Store (2 ^ 20) 1 ∷ Over (Trapped Division) ∷ []
-unfolding size statement_size stores type_of callee_of row_type points_to likeness_of each_likeness signature_likeness_of same packed unpacked hidden hidden-the_row-CType-0 shape-the_row-CType-0 hidden-the_row-CType-1 shape-the_row-CType-1 hidden-the_row-Expr-0 shape-the_row-Expr-0 hidden-the_row-Place-1 shape-the_row-Place-1 hidden-the_row-Expr-2 shape-the_row-Expr-2 hidden-the_row-Stmt-0 shape-the_row-Stmt-0 hidden-the_row-Stmt-1 shape-the_row-Stmt-1 hidden-the_row-Initializer-0 shape-the_row-Initializer-0
+unfolding computing
 division = refl
 
 shift : events 20 (main_of 0 (returns (arithmetic LeftShift (int 1) (int 32)) ∷ [])) 0
     ≡ Load (2 ^ 20) ∷ Enter 0 0 ∷ Trap Shift ∷ Store (2 ^ 20) 1 ∷ Over (Trapped Shift) ∷ []
-unfolding size statement_size stores type_of callee_of row_type points_to likeness_of each_likeness signature_likeness_of same packed unpacked hidden hidden-the_row-CType-0 shape-the_row-CType-0 hidden-the_row-CType-1 shape-the_row-CType-1 hidden-the_row-Expr-0 shape-the_row-Expr-0 hidden-the_row-Place-1 shape-the_row-Place-1 hidden-the_row-Expr-2 shape-the_row-Expr-2 hidden-the_row-Stmt-0 shape-the_row-Stmt-0 hidden-the_row-Stmt-1 shape-the_row-Stmt-1 hidden-the_row-Initializer-0 shape-the_row-Initializer-0
+unfolding computing
 shift = refl
 
 abbrev to_void : CType
@@ -128,7 +116,7 @@ to_void = pointer_to (a_type.Function void)
 null_call : events 20 (main_of 1 (
     variable_is 0 to_void (expr.Convert cause.Null to_void expr.Null) ∷ run (expr.Call 0 1 (value 0 to_void) []) ∷ [])) 0
     ≡ Load (2 ^ 20) ∷ Enter 0 0 ∷ Store 1025 0 ∷ Load 1025 ∷ Trap NullCall ∷ Store (2 ^ 20) 1 ∷ Over (Trapped NullCall) ∷ []
-unfolding size statement_size stores type_of callee_of row_type points_to likeness_of each_likeness signature_likeness_of same packed unpacked hidden hidden-the_row-CType-0 shape-the_row-CType-0 hidden-the_row-CType-1 shape-the_row-CType-1 hidden-the_row-Expr-0 shape-the_row-Expr-0 hidden-the_row-Place-1 shape-the_row-Place-1 hidden-the_row-Expr-2 shape-the_row-Expr-2 hidden-the_row-Stmt-0 shape-the_row-Stmt-0 hidden-the_row-Stmt-1 shape-the_row-Stmt-1 hidden-the_row-Initializer-0 shape-the_row-Initializer-0
+unfolding computing
 null_call = refl
 
 -- A frame of 97 words doesn't fit behind one of 4,000; of 96 it does.
@@ -138,12 +126,12 @@ with_frames words = unit (
 
 stack_overflow : events 20 (with_frames 97) 0
     ≡ Load (2 ^ 20) ∷ Enter 0 0 ∷ Load (2 ^ 20) ∷ Trap StackOverflow ∷ Store (2 ^ 20) 1 ∷ Over (Trapped StackOverflow) ∷ []
-unfolding size statement_size stores type_of callee_of row_type points_to likeness_of each_likeness signature_likeness_of same packed unpacked hidden hidden-the_row-CType-0 shape-the_row-CType-0 hidden-the_row-CType-1 shape-the_row-CType-1 hidden-the_row-Expr-0 shape-the_row-Expr-0 hidden-the_row-Place-1 shape-the_row-Place-1 hidden-the_row-Expr-2 shape-the_row-Expr-2 hidden-the_row-Stmt-0 shape-the_row-Stmt-0 hidden-the_row-Stmt-1 shape-the_row-Stmt-1 hidden-the_row-Initializer-0 shape-the_row-Initializer-0
+unfolding computing
 stack_overflow = refl
 
 fitting_frame : events 20 (with_frames 96) 0
     ≡ Load (2 ^ 20) ∷ Enter 0 0 ∷ Load (2 ^ 20) ∷ Enter 1 1 ∷ Leave ∷ Leave ∷ Store (2 ^ 20) 1 ∷ Over (Exited (pos 0)) ∷ []
-unfolding size statement_size stores type_of callee_of row_type points_to likeness_of each_likeness signature_likeness_of same packed unpacked hidden hidden-the_row-CType-0 shape-the_row-CType-0 hidden-the_row-CType-1 shape-the_row-CType-1 hidden-the_row-Expr-0 shape-the_row-Expr-0 hidden-the_row-Place-1 shape-the_row-Place-1 hidden-the_row-Expr-2 shape-the_row-Expr-2 hidden-the_row-Stmt-0 shape-the_row-Stmt-0 hidden-the_row-Stmt-1 shape-the_row-Stmt-1 hidden-the_row-Initializer-0 shape-the_row-Initializer-0
+unfolding computing
 fitting_frame = refl
 
 -- int main(void) { return main(); } enters 256 frames.
@@ -153,29 +141,29 @@ nested (suc n) rest = Load (2 ^ 20) ∷ Enter 0 1 ∷ nested n rest
 
 frame_overflow : events 600 (main_of 0 (returns (call 1 0 (takes Int []) []) ∷ [])) 0
     ≡ Load (2 ^ 20) ∷ Enter 0 0 ∷ nested 255 (Load (2 ^ 20) ∷ Trap StackOverflow ∷ Store (2 ^ 20) 1 ∷ Over (Trapped StackOverflow) ∷ [])
-unfolding size statement_size stores type_of callee_of row_type points_to likeness_of each_likeness signature_likeness_of same packed unpacked hidden hidden-the_row-CType-0 shape-the_row-CType-0 hidden-the_row-CType-1 shape-the_row-CType-1 hidden-the_row-Expr-0 shape-the_row-Expr-0 hidden-the_row-Place-1 shape-the_row-Place-1 hidden-the_row-Expr-2 shape-the_row-Expr-2 hidden-the_row-Stmt-0 shape-the_row-Stmt-0 hidden-the_row-Stmt-1 shape-the_row-Stmt-1 hidden-the_row-Initializer-0 shape-the_row-Initializer-0
+unfolding computing
 frame_overflow = refl
 
 -- of a thread that holds so many values already
 abbrev holder : ℕ → State
-holder count = record (start 0 0 []) { held = replicate count Zero; todo = Now Hold ∷ Now (In EndText) ∷ [] }
+holder count = record (start 0 0 []) { held = replicate count Zero; todo = Now Hold ∷ Now (In EndText Int) ∷ [] }
 
 held_values : next (unit [] []) (holder 1023) ∷ next (unit [] []) (holder 1024) ∷ [] ≡ Out 10 ∷ Trap StackOverflow ∷ []
-unfolding size statement_size stores type_of callee_of row_type points_to likeness_of each_likeness signature_likeness_of same packed unpacked hidden hidden-the_row-CType-0 shape-the_row-CType-0 hidden-the_row-CType-1 shape-the_row-CType-1 hidden-the_row-Expr-0 shape-the_row-Expr-0 hidden-the_row-Place-1 shape-the_row-Place-1 hidden-the_row-Expr-2 shape-the_row-Expr-2 hidden-the_row-Stmt-0 shape-the_row-Stmt-0 hidden-the_row-Stmt-1 shape-the_row-Stmt-1 hidden-the_row-Initializer-0 shape-the_row-Initializer-0
+unfolding computing
 held_values = refl
 
 -- static int x; .. free(&x); reads address 0.
 bad_free : events 20 (unit (definition "main" (takes Int []) 0 (
     run (library_call 1 2 (expr.Convert cause.Implicit void_pointer (expr.AddressOf (static 1 Int)) ∷ [])) ∷ returns (int 0) ∷ []) ∷ []) (0 ∷ [])) 0
     ≡ Load (2 ^ 20) ∷ Enter 0 0 ∷ Load (2 ^ 20) ∷ Reach 4098 1 ∷ Load 0 ∷ Trap BadFree ∷ Store (2 ^ 20) 1 ∷ Over (Trapped BadFree) ∷ []
-unfolding size statement_size stores type_of callee_of row_type points_to likeness_of each_likeness signature_likeness_of same packed unpacked hidden hidden-the_row-CType-0 shape-the_row-CType-0 hidden-the_row-CType-1 shape-the_row-CType-1 hidden-the_row-Expr-0 shape-the_row-Expr-0 hidden-the_row-Place-1 shape-the_row-Place-1 hidden-the_row-Expr-2 shape-the_row-Expr-2 hidden-the_row-Stmt-0 shape-the_row-Stmt-0 hidden-the_row-Stmt-1 shape-the_row-Stmt-1 hidden-the_row-Initializer-0 shape-the_row-Initializer-0
+unfolding computing
 bad_free = refl
 
 -- static pthread_mutex_t m; .. pthread_mutex_unlock(&m); of a mutex that nobody holds
 bad_unlock : events 20 (unit (definition "main" (takes Int []) 0 (
     run (library_call 1 6 (expr.AddressOf (static 1 Mutex) ∷ [])) ∷ returns (int 0) ∷ []) ∷ []) (0 ∷ [])) 0
     ≡ Load (2 ^ 20) ∷ Enter 0 0 ∷ Load (2 ^ 20) ∷ Reach 4102 1 ∷ Exchange 1 (5 * 2 ^ 60) 0 ∷ Trap BadUnlock ∷ Store (2 ^ 20) 1 ∷ Over (Trapped BadUnlock) ∷ []
-unfolding size statement_size stores type_of callee_of row_type points_to likeness_of each_likeness signature_likeness_of same packed unpacked hidden hidden-the_row-CType-0 shape-the_row-CType-0 hidden-the_row-CType-1 shape-the_row-CType-1 hidden-the_row-Expr-0 shape-the_row-Expr-0 hidden-the_row-Place-1 shape-the_row-Place-1 hidden-the_row-Expr-2 shape-the_row-Expr-2 hidden-the_row-Stmt-0 shape-the_row-Stmt-0 hidden-the_row-Stmt-1 shape-the_row-Stmt-1 hidden-the_row-Initializer-0 shape-the_row-Initializer-0
+unfolding computing
 bad_unlock = refl
 
 -- a function f that `main` calls
@@ -185,35 +173,35 @@ calling f = unit (definition "main" (takes Int []) 0 (run (call 1 1 f.kind []) �
 -- _Noreturn void f(void) { }
 noreturn_returned : events 20 (calling (noreturn (definition "f" void 0 []))) 0
     ≡ Load (2 ^ 20) ∷ Enter 0 0 ∷ Load (2 ^ 20) ∷ Enter 1 1 ∷ Trap NoreturnReturned ∷ Store (2 ^ 20) 1 ∷ Over (Trapped NoreturnReturned) ∷ []
-unfolding size statement_size stores type_of callee_of row_type points_to likeness_of each_likeness signature_likeness_of same packed unpacked hidden hidden-the_row-CType-0 shape-the_row-CType-0 hidden-the_row-CType-1 shape-the_row-CType-1 hidden-the_row-Expr-0 shape-the_row-Expr-0 hidden-the_row-Place-1 shape-the_row-Place-1 hidden-the_row-Expr-2 shape-the_row-Expr-2 hidden-the_row-Stmt-0 shape-the_row-Stmt-0 hidden-the_row-Stmt-1 shape-the_row-Stmt-1 hidden-the_row-Initializer-0 shape-the_row-Initializer-0
+unfolding computing
 noreturn_returned = refl
 
 -- int f(void) { }
 no_value : events 20 (calling (definition "f" (takes Int []) 0 [])) 0
     ≡ Load (2 ^ 20) ∷ Enter 0 0 ∷ Load (2 ^ 20) ∷ Enter 1 1 ∷ Trap NoValue ∷ Store (2 ^ 20) 1 ∷ Over (Trapped NoValue) ∷ []
-unfolding size statement_size stores type_of callee_of row_type points_to likeness_of each_likeness signature_likeness_of same packed unpacked hidden hidden-the_row-CType-0 shape-the_row-CType-0 hidden-the_row-CType-1 shape-the_row-CType-1 hidden-the_row-Expr-0 shape-the_row-Expr-0 hidden-the_row-Place-1 shape-the_row-Place-1 hidden-the_row-Expr-2 shape-the_row-Expr-2 hidden-the_row-Stmt-0 shape-the_row-Stmt-0 hidden-the_row-Stmt-1 shape-the_row-Stmt-1 hidden-the_row-Initializer-0 shape-the_row-Initializer-0
+unfolding computing
 no_value = refl
 
 -- _Noreturn int f(void) { } has no value before it returns.
 no_value_before : events 20 (calling (noreturn (definition "f" (takes Int []) 0 []))) 0
     ≡ Load (2 ^ 20) ∷ Enter 0 0 ∷ Load (2 ^ 20) ∷ Enter 1 1 ∷ Trap NoValue ∷ Store (2 ^ 20) 1 ∷ Over (Trapped NoValue) ∷ []
-unfolding size statement_size stores type_of callee_of row_type points_to likeness_of each_likeness signature_likeness_of same packed unpacked hidden hidden-the_row-CType-0 shape-the_row-CType-0 hidden-the_row-CType-1 shape-the_row-CType-1 hidden-the_row-Expr-0 shape-the_row-Expr-0 hidden-the_row-Place-1 shape-the_row-Place-1 hidden-the_row-Expr-2 shape-the_row-Expr-2 hidden-the_row-Stmt-0 shape-the_row-Stmt-0 hidden-the_row-Stmt-1 shape-the_row-Stmt-1 hidden-the_row-Initializer-0 shape-the_row-Initializer-0
+unfolding computing
 no_value_before = refl
 
 -- int main(void) { } returns 0; marked _Noreturn it is trapped.
 end_of_main : events 20 (main_of 0 []) 0 ≡ Load (2 ^ 20) ∷ Enter 0 0 ∷ Leave ∷ Store (2 ^ 20) 1 ∷ Over (Exited (pos 0)) ∷ []
-unfolding size statement_size stores type_of callee_of row_type points_to likeness_of each_likeness signature_likeness_of same packed unpacked hidden hidden-the_row-CType-0 shape-the_row-CType-0 hidden-the_row-CType-1 shape-the_row-CType-1 hidden-the_row-Expr-0 shape-the_row-Expr-0 hidden-the_row-Place-1 shape-the_row-Place-1 hidden-the_row-Expr-2 shape-the_row-Expr-2 hidden-the_row-Stmt-0 shape-the_row-Stmt-0 hidden-the_row-Stmt-1 shape-the_row-Stmt-1 hidden-the_row-Initializer-0 shape-the_row-Initializer-0
+unfolding computing
 end_of_main = refl
 
 end_of_a_noreturn_main : events 20 (unit (noreturn (definition "main" (takes Int []) 0 []) ∷ []) []) 0
     ≡ Load (2 ^ 20) ∷ Enter 0 0 ∷ Trap NoreturnReturned ∷ Store (2 ^ 20) 1 ∷ Over (Trapped NoreturnReturned) ∷ []
-unfolding size statement_size stores type_of callee_of row_type points_to likeness_of each_likeness signature_likeness_of same packed unpacked hidden hidden-the_row-CType-0 shape-the_row-CType-0 hidden-the_row-CType-1 shape-the_row-CType-1 hidden-the_row-Expr-0 shape-the_row-Expr-0 hidden-the_row-Place-1 shape-the_row-Place-1 hidden-the_row-Expr-2 shape-the_row-Expr-2 hidden-the_row-Stmt-0 shape-the_row-Stmt-0 hidden-the_row-Stmt-1 shape-the_row-Stmt-1 hidden-the_row-Initializer-0 shape-the_row-Initializer-0
+unfolding computing
 end_of_a_noreturn_main = refl
 
 -- abort();
 aborts : events 20 (main_of 0 (run (library_call 1 14 []) ∷ [])) 0
     ≡ Load (2 ^ 20) ∷ Enter 0 0 ∷ Load (2 ^ 20) ∷ Reach 4110 1 ∷ Trap Abort ∷ Store (2 ^ 20) 1 ∷ Over (Trapped Abort) ∷ []
-unfolding size statement_size stores type_of callee_of row_type points_to likeness_of each_likeness signature_likeness_of same packed unpacked hidden hidden-the_row-CType-0 shape-the_row-CType-0 hidden-the_row-CType-1 shape-the_row-CType-1 hidden-the_row-Expr-0 shape-the_row-Expr-0 hidden-the_row-Place-1 shape-the_row-Place-1 hidden-the_row-Expr-2 shape-the_row-Expr-2 hidden-the_row-Stmt-0 shape-the_row-Stmt-0 hidden-the_row-Stmt-1 shape-the_row-Stmt-1 hidden-the_row-Initializer-0 shape-the_row-Initializer-0
+unfolding computing
 aborts = refl
 
 -- typedef void (*nb)(void) [[clang::nonblocking]]; typedef void (*pl)(void);
@@ -241,5 +229,5 @@ level_unit = unit (
 level_in_a_word : events 20 level_unit 2
     ≡ Load (2 ^ 20) ∷ Enter 2 0 ∷ Store 1025 (4 * 2 ^ 60) ∷ Store 1026 (3 * 2 ^ 60 + 1025) ∷ Load 1026 ∷ Load (2 ^ 20) ∷ Enter 1 2
     ∷ Store 1027 (3 * 2 ^ 60 + 1025) ∷ Load 1027 ∷ Load 1025 ∷ Trap BadWord ∷ Store (2 ^ 20) 1 ∷ Over (Trapped BadWord) ∷ []
-unfolding size statement_size stores type_of callee_of row_type points_to likeness_of each_likeness signature_likeness_of same packed unpacked hidden hidden-the_row-CType-0 shape-the_row-CType-0 hidden-the_row-CType-1 shape-the_row-CType-1 hidden-the_row-Expr-0 shape-the_row-Expr-0 hidden-the_row-Place-1 shape-the_row-Place-1 hidden-the_row-Expr-2 shape-the_row-Expr-2 hidden-the_row-Stmt-0 shape-the_row-Stmt-0 hidden-the_row-Stmt-1 shape-the_row-Stmt-1 hidden-the_row-Initializer-0 shape-the_row-Initializer-0
+unfolding computing
 level_in_a_word = refl

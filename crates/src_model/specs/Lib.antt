@@ -3,8 +3,11 @@ pub mod Rules
 pub mod Weights
 pub mod Source
 pub mod Traces
-pub mod Prefixes
 pub mod Runs
 pub mod Totals
+pub mod Outputs
 pub mod Excused
 pub mod Scheduled
+pub mod Follows
+pub mod Laws
+pub mod Chains

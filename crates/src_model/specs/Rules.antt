@@ -6,7 +6,7 @@ use Rattle.arithmetic.specs.Values.{number}
 use Rattle.arithmetic.specs.declared.operations.Operation.{Operation}
 use Rattle.arithmetic.specs.declared.traps.TrapKind.{TrapKind}
 use Rattle.core_unit.specs.Places.{callee, Callee, Named, Row, Through}
-use Rattle.core_unit.specs.Shapes.{target_of, element_of, pointer_to, sign_of}
+use Rattle.core_unit.specs.Shapes.{target_of, element_of, pointer_to, sign_of, level_of}
 use Rattle.core_unit.specs.Stores.{stores}
 use Rattle.core_unit.specs.Typing.{type_of, place_type, binary_type}
 use Rattle.core_unit.specs.declared.body.Initializer.{Initializer}
@@ -14,7 +14,7 @@ use Rattle.core_unit.specs.declared.body.LoopKind.TheVariants as loop_kind
 use Rattle.core_unit.specs.declared.body.Stmt as stmt
 use Rattle.core_unit.specs.declared.body.Stmt.{Stmt, Row_of-Stmt, end_of-Stmt, more_of-Stmt}
 use Rattle.core_unit.specs.declared.expressions.Expr as expr
-use Rattle.core_unit.specs.declared.expressions.Expr.{Expr, Row_of-Expr, end_of-Expr, more_of-Expr, Row_of-Place, end_of-Place, more_of-Place}
+use Rattle.core_unit.specs.declared.expressions.Expr.{Expr, Row_of-Expr, end_of-Expr, more_of-Expr, end_of-Place, more_of-Place}
 use Rattle.core_unit.specs.declared.expressions.Place as place
 use Rattle.core_unit.specs.declared.expressions.Place.{Place}
 use Rattle.core_unit.specs.declared.expressions.Storage.{Storage}
@@ -30,7 +30,6 @@ use Rattle.core_unit.specs.declared.words.Word.TheVariants as word
 use Rattle.eff_types.specs.declared.types.CType.{Void}
 use Rattle.mcode.specs.Memory.{region_of, stack_of}
 use Rattle.mcode.specs.Steps.{Step, Quiet}
-use Rattle.mcode.specs.Words.{level_of}
 use Rattle.src_model.specs.Tasks.{Part, Value, Address, Hold, LoadAs, StoreAs, Retype, Change, Apply, Advance, StoreStep, Shift, Also, Pick, Branch, Fill, Guard, Check, Begin, BeginThrough, Arrive, While, DoWhile, For, Task, Now, Do, Turn, Again, Fall, Leaving, Fail, State}
 
 -- parts, and then what remains

@@ -1,6 +1,6 @@
 -- Runs: traces of up to 64 threads over one legal history of the words of memory, each up to its ending (this project's own rules on events, reports
 -- and endings). A trace has the latest event first.
-use Rattle.std.specs.Prelude.{◌≡◌, ℕ, suc, ◌<◌, ◌≤◌, Bool, true, false, not, ◌&&◌, ◌||◌, nat_eq, nat_lt, nat_le, if◌then◌else◌, List, [], ◌∷◌, drop, flat_map, length, count_by, Contains, All, Option, Some, None, ℤ, pos, slice_get, slice_index_or}
+use Rattle.std.specs.Prelude.{◌≡◌, ℕ, suc, ◌<◌, ◌≤◌, Bool, true, false, ◌&&◌, ◌||◌, nat_eq, nat_lt, nat_le, if◌then◌else◌, List, [], ◌∷◌, drop, flat_map, length, count_by, Contains, All, Option, Some, None, ℤ, pos, slice_get, slice_index_or}
 use Rattle.std.specs.List.{list_any}
 use Rattle.std.specs.Str.{bytes_eq}
 use Rattle.arithmetic.specs.Numbers.{bits_of}
@@ -9,38 +9,40 @@ use Rattle.core_unit.specs.Units.{opening}
 use Rattle.core_unit.specs.Words.{packed}
 use Rattle.core_unit.specs.declared.tables.FunctionInfo.{FunctionInfo}
 use Rattle.core_unit.specs.declared.tables.UnitParts.{UnitParts}
-use Rattle.src_model.specs.Prefixes.{is_same, prefixes, distinct, room}
+use Rattle.ctx_set.specs.Prefixes.{is_same, prefixes, distinct, room}
 use Rattle.ctx_set.specs.declared.steps.StackStep.{StackStep}
 use Rattle.eff_types.specs.Types.{is_number}
 use Rattle.eff_types.specs.declared.types.CType.{CType}
 use Rattle.mcode.specs.Memory.{halt}
 use Rattle.mcode.specs.Words.{is_defined}
 use Rattle.mcode.specs.declared.events.Ask.{Ask}
-use Rattle.mcode.specs.declared.events.Ask.TheVariants.{Load, Store, Trap, Over}
+use Rattle.mcode.specs.declared.events.Ask.TheVariants.{Load, Store, Reach, Trap, Over}
 use Rattle.mcode.specs.declared.events.Finish.{Finish}
 use Rattle.mcode.specs.declared.events.Finish.TheVariants as finish
 use Rattle.mcode.specs.declared.events.Turned.{Turned}
 use Rattle.mcode.specs.declared.events.Turned.TheVariants.{Went, FailedTry}
+use Rattle.rt_ctx.specs.Places.{stack_at}
+use Rattle.rt_ctx.specs.Suppressing.{is_suppressed_place as is_suppressed_reach, is_report_place as is_report_reach}
 use Rattle.src_model.specs.Source.{next, after, turned, start, cut}
 use Rattle.src_model.specs.Tasks.{State}
-use Rattle.src_model.specs.Traces.{is_detected_event, stack_of_event, reached_target, words_of, Creation, creations, has_refused_creation}
+use Rattle.src_model.specs.Traces.{is_answered, context_after, frames_after, stack_of_event, words_of, Creation, creations, has_refused_creation}
 use Rattle.src_model.specs.declared.runs.End.{End}
 use Rattle.src_model.specs.declared.runs.End.TheVariants.{Returned, Exited, Trapped, Halted, Stopped, Waiting, Full}
 use Rattle.src_model.specs.declared.runs.Made.{Made}
 use Rattle.src_model.specs.declared.runs.Options.{Options}
+use Rattle.suppress.specs.declared.suppressions.Suppression.{Suppression}
 use Rattle.word_mem.specs.Held.{Follows, Made as Split}
 use Rattle.word_mem.specs.Merge.{events, part}
 use Rattle.word_mem.specs.Replay.{IsLegal}
 use Rattle.word_mem.specs.declared.event.Entry.{Entry}
 
--- What is run, and how: the unit, the name of its entry and what that is called with, the options, and which reaches are suppressed, by their
--- stacks and by what they reach.
+-- What is run, and how: the unit, the name of its entry and what that is called with, the options, and the suppressions of the suppression file.
 pub record Setting : Type 0 where
   pub unit : UnitParts
   pub entry : List ℕ
   pub arguments : List ℤ
   pub options : Options
-  pub suppresses : List StackStep → (target : ℕ) → Bool
+  pub suppressions : List Suppression
 
 -- the start of a thread: its number, its first function, and the words that this is called with
 pub record Start : Type 0 where
@@ -70,12 +72,17 @@ argument_words (t ∷ ts) arguments =
     if is_number t then packed (number (bits_of (slice_index_or arguments 0 (pos 0)))) ∷ argument_words ts (drop 1 arguments)
     else 0 ∷ argument_words ts arguments
 
--- an event that follows a trace is a suppressed place, or else, where it is detected, a report place
+-- an event that follows a trace is a suppressed place: a detected reach that a suppression matches
 abbrev pub is_suppressed_place : Setting → List Made → Ask → Bool
-is_suppressed_place w before ask = is_detected_event w.unit before ask && w.suppresses (stack_of_event before ask) (reached_target ask)
+is_suppressed_place w before (Reach target site) =
+    is_suppressed_reach w.unit w.suppressions (context_after w.unit before) (stack_at (frames_after before) target site) target
+is_suppressed_place w before _ = false
 
+-- or a report place: a detected reach that none matches
 abbrev pub is_report_place : Setting → List Made → Ask → Bool
-is_report_place w before ask = is_detected_event w.unit before ask && not (w.suppresses (stack_of_event before ask) (reached_target ask))
+is_report_place w before (Reach target site) =
+    is_report_reach w.unit w.suppressions (context_after w.unit before) (stack_at (frames_after before) target site) target
+is_report_place w before _ = false
 
 -- a report cuts its thread short, where `halt_on_error` says so
 abbrev pub is_cut : Setting → List Made → Ask → Bool
@@ -97,10 +104,14 @@ state_after w begin trace = moved w (after w.unit) cut (started begin) trace
 abbrev pub next_after : Setting → Start → List Made → Ask
 next_after w begin trace = next w.unit (state_after w begin trace)
 
+-- the word beside an event that nothing answers is 0
+abbrev pub HasItsWord : Made → Type 0
+HasItsWord made = is_answered made.ask ≡ false → made.word ≡ 0
+
 -- each event is the next one of the state before it
 abbrev pub IsSourceRun : Setting → Start → List Made → Type 0
 IsSourceRun w begin [] = Unit {0}
-IsSourceRun w begin (made ∷ before) = (next_after w begin before ≡ made.ask) × IsSourceRun w begin before
+IsSourceRun w begin (made ∷ before) = (next_after w begin before ≡ made.ask) × HasItsWord made × IsSourceRun w begin before
 
 -- Failed tries in a row: between two of one call the halt word is loaded, and every other event ends the row.
 abbrev pub tries_with : Turned → Ask → ℕ → ℕ

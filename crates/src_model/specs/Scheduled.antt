@@ -1,10 +1,10 @@
 -- The scheduled run: one list of words, one state for each thread, and one event for each turn (this project's own rule). The same setting and
 -- schedule give the same run.
-use Rattle.std.specs.Prelude.{ℕ, zero, suc, ◌+◌, ◌*◌, Bool, false, not, ◌&&◌, nat_lt, if◌then◌else◌, List, [], ◌∷◌, ◌++◌, length, map, flat_map, take, set, Option, Some, None, slice_get, slice_index, unwrap_or}
+use Rattle.std.specs.Prelude.{ℕ, zero, suc, ◌+◌, ◌*◌, Bool, true, false, not, ◌&&◌, nat_lt, if◌then◌else◌, List, [], ◌∷◌, ◌++◌, length, map, flat_map, set, Option, Some, None, is_some, slice_get, slice_index, unwrap_or}
 use Rattle.std.specs.List.{list_all}
 use Rattle.core_unit.specs.Units.{opening}
 use Rattle.core_unit.specs.declared.tables.FunctionInfo.{FunctionInfo}
-use Rattle.src_model.specs.Prefixes.{prefixes, distinct, has, room}
+use Rattle.ctx_set.specs.Prefixes.{prefixes, has_room_behind}
 use Rattle.ctx_set.specs.declared.steps.StackStep.{StackStep}
 use Rattle.mcode.specs.declared.events.Ask.{Ask}
 use Rattle.mcode.specs.declared.events.Ask.TheVariants.{Load, Exchange, FetchAdd, FetchSub, Create}
@@ -16,6 +16,7 @@ use Rattle.src_model.specs.declared.runs.End.{End}
 use Rattle.src_model.specs.declared.runs.End.TheVariants.{Stopped, Full}
 use Rattle.src_model.specs.declared.runs.Made.{Made}
 use Rattle.word_mem.specs.Replay.{replay}
+use Rattle.word_mem.specs.declared.event.WordEvent.{WordEvent}
 
 -- a thread on its way: its start, its state, its trace, its failed tries in a row, whether the board refused its last event, and its ending
 pub record Live : Type 0 where
@@ -26,27 +27,36 @@ pub record Live : Type 0 where
   pub refused : Bool
   pub end : Option End
 
+-- how a run keeps the words of memory: the word at an address, and what is kept after word events
+pub record Memory (M : Type 0) : Type 0 where
+  pub word_at : M → (at : ℕ) → ℕ
+  pub after_events : M → List WordEvent → M
+
+-- as the list of all words
+abbrev pub as_list : Memory (List ℕ)
+as_list = record { word_at = λ words at. slice_index words at; after_events = λ words events. replay words events }
+
 -- a run on its way: the words, the stacks that the board was asked to count, in order of asking, and the threads
-pub record Running : Type 0 where
-  pub words : List ℕ
+pub record Running (M : Type 0) : Type 0 where
+  pub words : M
   pub asked : List (List StackStep)
   pub threads : List Live
 
 abbrev pub fresh : Start → Live
 fresh begin = record { begin = begin; state = started begin; trace = []; tries = 0; refused = false; end = None }
 
--- the board has room for a stack where each prefix of it is among the first that came, the shorter ones of a stack first
+-- the board has room for a stack behind those that it was asked to count before
 abbrev pub has_room : List (List StackStep) → List StackStep → Bool
-has_room asked stack = list_all (has (take room (distinct (flat_map prefixes asked ++ prefixes stack)))) (prefixes stack)
+has_room asked stack = has_room_behind (flat_map prefixes asked) stack
 
 -- what answers an event: the word at its address; of a creation the next number, or none where 64 threads were made
-abbrev pub answer : Running → Ask → ℕ
-answer r (Load at) = slice_index r.words at
-answer r (Exchange at old new) = slice_index r.words at
-answer r (FetchAdd at n) = slice_index r.words at
-answer r (FetchSub at n) = slice_index r.words at
-answer r (Create function argument) = if nat_lt (length r.threads) 64 then length r.threads else 0
-answer r _ = 0
+abbrev pub answer : {M : Type 0} → Memory M → Running M → Ask → ℕ
+answer m r (Load at) = m.word_at r.words at
+answer m r (Exchange at old new) = m.word_at r.words at
+answer m r (FetchAdd at n) = m.word_at r.words at
+answer m r (FetchSub at n) = m.word_at r.words at
+answer m r (Create function argument) = if nat_lt (length r.threads) 64 then length r.threads else 0
+answer m r _ = 0
 
 -- the thread that an event starts
 abbrev pub children : Ask → (answer : ℕ) → List Live
@@ -73,62 +83,77 @@ stepped w t ask word refused =
       refused = refused;
     })
 
+-- the board refuses the stack of an event that follows a trace
+abbrev pub is_refused : Setting → (asked : List (List StackStep)) → List Made → Ask → Bool
+is_refused w asked before ask = is_report_place w before ask && not (has_room asked (stack_of_event before ask))
+
 -- a thread of this number that hasn't ended makes its next event, which is answered so
-abbrev pub makes : Setting → (number : ℕ) → Live → Ask → (answer : ℕ) → Running → Running
-makes w n t ask word r = record {
-  words = replay r.words (word_event ask word);
+abbrev pub makes : {M : Type 0} → Memory M → Setting → (number : ℕ) → Live → Ask → (answer : ℕ) → Running M → Running M
+makes m w n t ask word r = record {
+  words = m.after_events r.words (word_event ask word);
   asked = r.asked ++ asks_for w t.trace ask;
-  threads = set r.threads n (stepped w t ask word (is_report_place w t.trace ask && not (has_room r.asked (stack_of_event t.trace ask)))) ++ children ask word;
+  threads = set r.threads n (stepped w t ask word (is_refused w r.asked t.trace ask)) ++ children ask word;
 }
 
-abbrev pub makes_next : Setting → (number : ℕ) → Live → Running → Running
-makes_next w n t r = of (next w.unit t.state)
-  where
-    of : Ask → Running
-    of ask = makes w n t ask (answer r ask) r
+abbrev pub makes_asked : {M : Type 0} → Memory M → Setting → (number : ℕ) → Live → Ask → Running M → Running M
+makes_asked m w n t ask r = makes m w n t ask (answer m r ask) r
+
+-- a thread of this number makes its next event, unless it has ended
+abbrev pub makes_next : {M : Type 0} → Memory M → Setting → (number : ℕ) → Live → Option End → Running M → Running M
+makes_next m w n t None r = makes_asked m w n t (next w.unit t.state) r
+makes_next m w n t (Some end) r = r
+
+abbrev pub turn_of : {M : Type 0} → Memory M → Setting → (number : ℕ) → Option Live → Running M → Running M
+turn_of m w n (Some t) r = makes_next m w n t t.end r
+turn_of m w n None r = r
 
 -- A turn of the thread of this number; where it isn't there, or has ended, nothing happens.
-abbrev pub turn : Setting → (number : ℕ) → Running → Running
-turn w n r = of (slice_get r.threads n)
-  where
-    unless_ended : Live → Option End → Running
-    unless_ended t None = makes_next w n t r
-    unless_ended t (Some end) = r
+abbrev pub turn : {M : Type 0} → Memory M → Setting → (number : ℕ) → Running M → Running M
+turn m w n r = turn_of m w n (slice_get r.threads n) r
 
-    of : Option Live → Running
-    of (Some t) = unless_ended t t.end
-    of None = r
-
-abbrev pub turns : Setting → List ℕ → Running → Running
-turns w [] r = r
-turns w (n ∷ ns) r = turns w ns (turn w n r)
+abbrev pub turns : {M : Type 0} → Memory M → Setting → List ℕ → Running M → Running M
+turns m w [] r = r
+turns m w (n ∷ ns) r = turns m w ns (turn m w n r)
 
 abbrev pub numbers : (first count : ℕ) → List ℕ
 numbers first zero = []
 numbers first (suc n) = first ∷ numbers (suc first) n
 
--- Round after round each thread that hasn't ended makes one event, from thread 0 on, those included that are started in the round.
-abbrev pub rounds : Setting → ℕ → Running → Running
-rounds w zero r = r
-rounds w (suc n) r = rounds w n (turns w (numbers 0 64) r)
+-- whether all threads have ended
+abbrev pub is_over : {M : Type 0} → Running M → Bool
+is_over r = list_all (λ t. is_some t.end) r.threads
+
+-- a round, and then what follows it, unless all threads have ended
+abbrev pub round_unless_over : {M : Type 0} → Memory M → Setting → (Running M → Running M) → Bool → Running M → Running M
+round_unless_over m w go true r = r
+round_unless_over m w go false r = go (turns m w (numbers 0 64) r)
+
+-- Round after round each thread that hasn't ended makes one event, from thread 0 on, those included that are started in the round, until all have
+-- ended.
+abbrev pub rounds : {M : Type 0} → Memory M → Setting → ℕ → Running M → Running M
+rounds m w zero r = r
+rounds m w (suc n) r = round_unless_over m w (rounds m w n) (is_over r) r
+
+abbrev pub called : Setting → (function : ℕ) → Option FunctionInfo → List Live
+called w function (Some info) =
+    fresh (record { number = 0; function = function; arguments = argument_words info.kind.params w.arguments }) ∷ []
+called w function None = []
+
+abbrev pub first_thread : Setting → Option ℕ → List Live
+first_thread w (Some function) = called w function (slice_get w.unit.functions function)
+first_thread w None = []
 
 -- at the start, with thread 0 at the entry, where there is one
-abbrev pub opened : Setting → Running
-opened w = record { words = opening w.unit; asked = []; threads = first (entry_of w) }
-  where
-    called : ℕ → Option FunctionInfo → List Live
-    called function (Some info) =
-        fresh (record { number = 0; function = function; arguments = argument_words info.kind.params w.arguments }) ∷ []
-    called function None = []
+abbrev pub opened : {M : Type 0} → Setting → M → Running M
+opened w words = record { words = words; asked = []; threads = first_thread w (entry_of w) }
 
-    first : Option ℕ → List Live
-    first (Some function) = called function (slice_get w.unit.functions function)
-    first None = []
-
--- First the threads of the schedule, then rounds. A thread makes at most three events beyond the event limit, and another one that it makes is
+-- First the threads of the schedule, then rounds. A thread makes at most two events beyond the event limit, and another one that it makes is
 -- begun before its limit; so of 64 threads, each made by the one before at the latest, all have ended then.
-abbrev pub scheduled : Setting → (schedule : List ℕ) → Running
-scheduled w schedule = rounds w (64 * (w.options.events + 4)) (turns w schedule (opened w))
+abbrev pub scheduled_over : {M : Type 0} → Memory M → Setting → (schedule : List ℕ) → M → Running M
+scheduled_over m w schedule words = rounds m w (64 * (w.options.events + 4)) (turns m w schedule (opened w words))
+
+abbrev pub scheduled : Setting → (schedule : List ℕ) → Running (List ℕ)
+scheduled w schedule = scheduled_over as_list w schedule (opening w.unit)
 
 -- the threads of a run that is over
 abbrev pub thread_of : Live → Thread

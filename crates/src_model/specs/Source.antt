@@ -8,7 +8,7 @@ use Rattle.arithmetic.specs.Values.{applied, applied_to, member_of, is_true, num
 use Rattle.arithmetic.specs.declared.traps.TrapKind.{TrapKind}
 use Rattle.arithmetic.specs.declared.traps.TrapKind.TheVariants.{BadWord, NullCall, StackOverflow, NoreturnReturned, NoValue}
 use Rattle.core_unit.specs.Library.{row_type}
-use Rattle.core_unit.specs.Shapes.{callee_of}
+use Rattle.core_unit.specs.Shapes.{callee_of, result_of as value_type_of}
 use Rattle.core_unit.specs.Stores.{Stored, Value as StoredValue, Byte, Zero as StoredZero, Undefined as StoredUndefined}
 use Rattle.core_unit.specs.Typing.{type_of}
 use Rattle.core_unit.specs.Units.{row_target}
@@ -49,13 +49,14 @@ abbrev pub finds_of_held : State → Result Word TrapKind → List Task → Step
 finds_of_held s (Ok value) k = Quiet (record s { todo = k; value = value; held = drop 1 s.held })
 finds_of_held s (Err kind) k = fails s kind
 
+-- an access at the address that was found
+abbrev pub accesses_at : State → Result ℕ TrapKind → (ℕ → Step State) → Step State
+accesses_at s (Ok at) go = go at
+accesses_at s (Err kind) go = fails s kind
+
 -- an access through a pointer to an object: no object is at address 0, and none from the halt word on
 abbrev pub accesses : State → Word → (ℕ → Step State) → Step State
-accesses s pointer go = of (accessed pointer)
-  where
-    of : Result ℕ TrapKind → Step State
-    of (Ok at) = go at
-    of (Err kind) = fails s kind
+accesses s pointer go = accesses_at s (accessed pointer) go
 
 -- the word that was loaded serves the type of the load, or the thread is trapped
 abbrev pub serve : State → Option Word → List Task → State
@@ -128,34 +129,34 @@ entered s function site info body held k = record s {
 abbrev pub has_room : State → FunctionInfo → Bool
 has_room s info = nat_lt (length s.frames) frame_limit && nat_le (s.top + info.frame_words) stack_words
 
--- a function that is defined is entered, where its frame has room; so many more values than its arguments are held for it
+-- a function with this body is entered, where its frame has room; so many more values than its arguments are held for it
+abbrev pub enters_body : State → (function site : ℕ) → FunctionInfo → Option Body → (more : ℕ) → List Task → Step State
+enters_body s function site info None more k = fails s NullCall
+enters_body s function site info (Some body) more k =
+    if has_room s info then does (Enter function site) (entered s function site info body (length info.kind.params + more) k)
+    else fails s StackOverflow
+
 abbrev pub enters : State → (function site : ℕ) → Option FunctionInfo → (more : ℕ) → List Task → Step State
 enters s function site None more k = fails s NullCall
-enters s function site (Some info) more k = of info.body
-  where
-    of : Option Body → Step State
-    of (Some body) =
-        if has_room s info then does (Enter function site) (entered s function site info body (length info.kind.params + more) k)
-        else fails s StackOverflow
-    of None = fails s NullCall
+enters s function site (Some info) more k = enters_body s function site info info.body more k
 
 -- the function that a pointer points to is entered
 abbrev pub enters_through : UnitParts → State → Word → (site : ℕ) → List Task → Step State
 enters_through u s (FunctionPointer function level) site k = enters s function site (slice_get u.functions function) 1 k
 enters_through u s _ site k = fails s NullCall
 
--- how a library call goes on
-abbrev pub staged : State → Staged → List Task → State
-staged s (Onto stage) k = record s { todo = Now (In stage) ∷ k }
-staged s (Retries stage) k = record s { todo = Now (In stage) ∷ k }
-staged s (Gives value) k = record s { todo = k; value = value }
-staged s (Traps kind) k = failing s kind
-staged s (Exits bits) k = record s { todo = Halting (Exited (value_of Signed bits)) ∷ [] }
-staged s Halts k = record s { todo = Finished Halted ∷ [] }
+-- how a library call goes on, whose value is of this type
+abbrev pub staged : State → (result : CType) → Staged → List Task → State
+staged s result (Onto stage) k = record s { todo = Now (In stage result) ∷ k }
+staged s result (Retries stage) k = record s { todo = Now (In stage result) ∷ k }
+staged s result (Gives value) k = record s { todo = k; value = value }
+staged s result (Traps kind) k = failing s kind
+staged s result (Exits bits) k = record s { todo = Halting (Exited (value_of Signed bits)) ∷ [] }
+staged s result Halts k = record s { todo = Finished Halted ∷ [] }
 
 -- a library function that was reached takes its arguments
 abbrev pub arrived : State → (row : ℕ) → List Task → State
-arrived s row k = staged (record s { held = drop (count_of (row_type row)) s.held }) (call_begins row s.held) k
+arrived s row k = staged (record s { held = drop (count_of (row_type row)) s.held }) (value_type_of (row_type row)) (call_begins row s.held) k
 
 -- What a part does, and then what remains.
 abbrev pub part_step : UnitParts → Part → List Task → State → Step State
@@ -186,8 +187,8 @@ part_step u (Meet function site) k s = does (Reach function site) (record s { to
 part_step u (Bind offset back t) k s = puts u s offset (written t (held_at s.held back)) k
 part_step u (Forget count) k s = Quiet (record s { todo = k; held = drop count s.held })
 part_step u (Arrive row site) k s = does (Reach (row_target row) site) (arrived s row k)
-part_step u (In stage) k s =
-    Makes (stage_asks s.number stage) (λ word. staged s (stage_after s.number stage word) k) (λ word. turned_to (stage_after s.number stage word))
+part_step u (In stage result) k s =
+    Makes (stage_asks s.number stage) (λ word. staged s result (stage_after s.number stage word) k) (λ word. turned_to (stage_after s.number stage word))
 
 -- A loop (C17 6.8.5): a turn begins with a load of the halt word, before the test where that comes first.
 abbrev pub turn_tasks : Loop → List Task → List Task
@@ -235,6 +236,7 @@ abbrev pub leaves : State → List Frame → State
 leaves s [] = record s { todo = [] }
 leaves s (frame ∷ frames) = record s { todo = frame.back; frames = frames; base = frame.base; top = s.base }
 
+-- the type of its result
 abbrev pub result_in : Option FunctionInfo → CType
 result_in (Some info) = info.kind.result
 result_in None = CType.Void
@@ -263,13 +265,14 @@ task_step u (Fail kind) k s = does (Trap kind) (record s { todo = Halting (Trapp
 task_step u (Halting finish) k s = does (Store halt 1) (record s { todo = Finished finish ∷ [] })
 task_step u (Finished finish) k s = Ends finish
 
--- one step of a thread; something always remains until it is finished
+-- what remains is begun; something always remains until a thread is finished
+abbrev pub steps : UnitParts → List Task → State → Step State
+steps u [] s = Ends Halted
+steps u (task ∷ k) s = task_step u task k s
+
+-- one step of a thread
 abbrev pub step : UnitParts → State → Step State
-step u s = of s.todo
-  where
-    of : List Task → Step State
-    of [] = Ends Halted
-    of (task ∷ k) = task_step u task k s
+step u s = steps u s.todo s
 
 -- the next step that isn't quiet
 abbrev pub settles : UnitParts → State → Step State

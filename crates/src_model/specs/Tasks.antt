@@ -63,8 +63,8 @@ pub data Part : Type 0 where
   Forget : ℕ → Part
   -- reach a library function
   Arrive : (row site : ℕ) → Part
-  -- a stage of a library call
-  In : Stage → Part
+  -- a stage of a library call, whose value is of this type
+  In : Stage → (result : CType) → Part
 
 -- the loops (C17 6.8.5)
 pub data Loop : Type 0 where

@@ -1,6 +1,6 @@
 -- What a trace says of its thread: its frames and its disabled depth, its places of reports, its word events, the threads that it started (Clang's
 -- manual 'RealtimeSanitizer'). A trace has the latest event first.
-use Rattle.std.specs.Prelude.{ℕ, Bool, false, ◌||◌, nat_eq, if◌then◌else◌, List, [], ◌∷◌, ◌++◌, length}
+use Rattle.std.specs.Prelude.{ℕ, Bool, true, false, ◌||◌, nat_eq, if◌then◌else◌, List, [], ◌∷◌, ◌++◌, length}
 use Rattle.core_unit.specs.Units.{row_target}
 use Rattle.core_unit.specs.declared.tables.UnitParts.{UnitParts}
 use Rattle.ctx_set.specs.declared.steps.StackStep.{StackStep}
@@ -8,7 +8,7 @@ use Rattle.mcode.specs.declared.events.Ask.{Ask}
 use Rattle.mcode.specs.declared.events.Ask.TheVariants as ask
 use Rattle.mcode.specs.declared.events.Ask.TheVariants.{Enter, Leave, Reach, Create}
 use Rattle.rt_ctx.specs.Frames.{Act, Enters, Leaves, Disables, Enables, frames, context_of}
-use Rattle.rt_ctx.specs.Places.{is_blocking_reach, is_detected, stack_at}
+use Rattle.rt_ctx.specs.Places.{is_blocking_reach, stack_at}
 use Rattle.rt_ctx.specs.declared.context.Context.{Context}
 use Rattle.src_model.specs.declared.runs.Made.{Made}
 use Rattle.word_mem.specs.declared.event.WordEvent.{WordEvent}
@@ -46,19 +46,19 @@ abbrev pub is_blocking_event : UnitParts → List Made → Ask → Bool
 is_blocking_event u before (Reach target site) = is_blocking_reach u (context_after u before) target
 is_blocking_event u before _ = false
 
--- and the detector isn't disabled
-abbrev pub is_detected_event : UnitParts → List Made → Ask → Bool
-is_detected_event u before (Reach target site) = is_detected u (context_after u before) target
-is_detected_event u before _ = false
-
 -- the stack of a reach that follows a trace, from the first function on
 abbrev pub stack_of_event : List Made → Ask → List StackStep
 stack_of_event before (Reach target site) = stack_at (frames_after before) target site
 stack_of_event before _ = []
 
-abbrev pub reached_target : Ask → ℕ
-reached_target (Reach target site) = target
-reached_target _ = 0
+-- whether a word answers an event
+abbrev pub is_answered : Ask → Bool
+is_answered (ask.Load at) = true
+is_answered (ask.Exchange at old new) = true
+is_answered (ask.FetchAdd at n) = true
+is_answered (ask.FetchSub at n) = true
+is_answered (Create function argument) = true
+is_answered _ = false
 
 -- the word event that an event is, with the word that answered it
 abbrev pub word_event : Ask → (answer : ℕ) → List WordEvent

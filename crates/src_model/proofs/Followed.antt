@@ -1,0 +1,33 @@
+-- Compiled code does what the source thread does along each trace, also where a report cuts it short.
+use Rattle.std.proofs.Common.{◌≡◌, refl, sym, ap, ◌∙◌, ℕ, Bool, true, false, List, [], ◌∷◌, if◌then◌else◌}
+use Rattle.mcode.specs.Machine.{Program, machine_next, machine_after, machine_turned, machine_cut}
+use Rattle.src_model.specs.Follows.{Move, Answers, driven, Behaves, cut_move, moves_of, machine_started, machine_after_trace}
+use Rattle.src_model.specs.Runs.{Setting, Start, moved, started, is_cut, state_after, next_after}
+use Rattle.src_model.specs.Source.{next, after, turned, cut}
+use Rattle.src_model.specs.declared.runs.Made.{Made}
+
+cut_or_not : {S : Type 0} (go : S → ℕ → S) (halts : S → S) (s : S) (b : Bool) (word : ℕ) (moves : List Move) →
+    (if b then halts (go (driven go halts s moves) word) else go (driven go halts s moves) word) ≡ driven go halts s (cut_move b (Answers word ∷ moves))
+cut_or_not go halts s true word moves = refl
+cut_or_not go halts s false word moves = refl
+
+-- The state after a trace is that after its moves.
+pub moved_is_driven : {S : Type 0} (w : Setting) (go : S → ℕ → S) (halts : S → S) (s : S) (trace : List Made) → moved w go halts s trace ≡ driven go halts s (moves_of w trace)
+moved_is_driven w go halts s [] = refl
+moved_is_driven w go halts s (made ∷ before) =
+    ap (λ t. if is_cut w before made.ask then halts (go t made.word) else go t made.word) (moved_is_driven w go halts s before)
+    ∙ cut_or_not go halts s (is_cut w before made.ask) made.word (moves_of w before)
+
+-- So the code's next event or finish after a trace is the source thread's,
+pub next_along : (w : Setting) (c : Program) → Behaves w.unit c → (begin : Start) (trace : List Made) → machine_next c (machine_after_trace w c begin trace) ≡ next_after w begin trace
+next_along w c behaves begin trace =
+    ap (machine_next c) (moved_is_driven w (machine_after c) machine_cut (machine_started begin) trace)
+    ∙ behaves.events begin (moves_of w trace)
+    ∙ sym (ap (next w.unit) (moved_is_driven w (after w.unit) cut (started begin) trace))
+
+-- and so is whether an answer makes it a failed try.
+pub tried_along : (w : Setting) (c : Program) → Behaves w.unit c → (begin : Start) (trace : List Made) (word : ℕ) → machine_turned c (machine_after_trace w c begin trace) word ≡ turned w.unit (state_after w begin trace) word
+tried_along w c behaves begin trace word =
+    ap (λ t. machine_turned c t word) (moved_is_driven w (machine_after c) machine_cut (machine_started begin) trace)
+    ∙ behaves.tries begin (moves_of w trace) word
+    ∙ sym (ap (λ s. turned w.unit s word) (moved_is_driven w (after w.unit) cut (started begin) trace))
