@@ -1,6 +1,6 @@
 -- Edges, their prefixes, and one edge more.
-use Rattle.std.proofs.Common.{◌≡◌, ◌≢◌, ◌⊎◌, inl, inr, ℕ, ◌+◌, ◌<◌, ◌≤◌, Bool, true, false, List, [], ◌∷◌, ◌++◌, length, get_or, Option, None, Some, refl, sym, ap, ◌∙◌, subst, arith, length-append}
-use Rattle.std.specs.Prelude.{fold, take, cond, nat_eq, ◌&&◌}
+use Rattle.std.proofs.Common.{◌≡◌, inl, inr, ℕ, ◌+◌, ◌<◌, ◌≤◌, Bool, true, false, List, [], ◌∷◌, ◌++◌, length, get_or, Option, None, Some, refl, sym, ap, ◌∙◌, subst, arith, length-append}
+use Rattle.std.specs.Prelude.{take, cond, nat_eq}
 use Rattle.std.specs.Option.{option_eq}
 use Rattle.std.proofs.lemmas.Bool.{cases_lt}
 use Rattle.std.proofs.lemmas.List.{get_or_append_left, get_or_push, get_or_default}
@@ -14,7 +14,7 @@ use Rattle.std.specs.HashMap.{HashMap, get, spare, Updates}
 use Rattle.std.specs.declared.hash.FoldHasher.{FoldHasher}
 use Rattle.std.specs.declared.hash.BuildHasherDefault.{BuildHasherDefault}
 use Rattle.prefix_table.specs.Edges.{start_of, made_by, stacks_of, IsBelow, AreEdges, IsTable, is_same_edge}
-use Rattle.prefix_table.proofs.Sames.{same_is, same_itself, step_is, step_itself, both}
+use Rattle.reports.proofs.Sames.{same_is, same_itself, step_is, step_itself, both}
 use Rattle.prefix_table.proofs.Firsts.{entered, entered_roomy, new_one, take_push}
 
 not_empty : {A : Type 0} (xs : List A) (x : A) → [] ≡ xs ++ x ∷ [] → ⊥

@@ -1,6 +1,6 @@
 -- One edge is entered: it has its number, there is no room, or it is added.
 use Rattle.std.proofs.lemmas.Bool.{cases_lt}
-use Rattle.std.proofs.Common.{◌≡◌, ◌≢◌, inl, inr, ℕ, ◌+◌, ◌<◌, ◌≤◌, Bool, true, false, List, [], ◌∷◌, ◌++◌, take, length, get_or, Option, None, Some, refl, sym, ap, ◌∙◌, arith, length-append}
+use Rattle.std.proofs.Common.{◌≡◌, ◌≢◌, inl, inr, ℕ, ◌+◌, ◌<◌, ◌≤◌, true, false, List, [], ◌∷◌, ◌++◌, length, get_or, None, Some, refl, sym, ap, ◌∙◌, arith, length-append}
 use Rattle.std.proofs.lemmas.List.{get_or_push}
 use Rattle.std.specs.HashMap.{HashMap, get, spare, IsEmpty}
 use Rattle.std.specs.Map.{lookup}
@@ -8,7 +8,7 @@ use Rattle.std.specs.declared.hash.FoldHasher.{FoldHasher}
 use Rattle.std.specs.declared.hash.BuildHasherDefault.{BuildHasherDefault}
 use Rattle.ctx_set.specs.declared.steps.StackStep.{StackStep}
 use Rattle.prefix_table.specs.declared.table.Edge.{Edge}
-use Rattle.reports.specs.Prefixes.{distinct, has, room}
+use Rattle.reports.specs.Prefixes.{has, room}
 use Rattle.prefix_table.specs.Edges.{made_by, stacks_of, IsBelow, IsTable, is_same_edge}
 use Rattle.prefix_table.proofs.EdgeLaws.{found, has_found, absent, stacks_push}
 use Rattle.prefix_table.proofs.Firsts.{entered, entered_full, entered_roomy, new_one, none_first, firsts_entered}

@@ -1,29 +1,19 @@
 -- The first different prefixes, and one more of them.
-use Rattle.std.proofs.Common.{◌≡◌, ℕ, ◌+◌, ◌<◌, ◌≤◌, ◌⊎◌, inl, inr, Bool, true, false, not, cond, List, [], ◌∷◌, ◌++◌, map, take, length, refl, sym, ap, ◌∙◌, arith, append_assoc, length-append, min}
-use Rattle.std.specs.Prelude.{◌||◌, ◌&&◌, filter, fold, nat_lt, if◌then◌else◌}
-use Rattle.std.specs.List.{list_any, list_all}
+use Rattle.std.proofs.Common.{◌≡◌, ℕ, ◌<◌, ◌≤◌, inl, inr, Bool, true, false, not, List, [], ◌∷◌, ◌++◌, map, take, length, refl, sym, ap, ◌∙◌, arith, append_assoc, length-append}
+use Rattle.std.specs.Prelude.{◌||◌, filter, fold, nat_lt, if◌then◌else◌}
+use Rattle.std.specs.List.{list_all}
 use Rattle.std.proofs.lemmas.Bool.{cases_lt, le-ltb}
 use Rattle.std.proofs.lemmas.List.{take-append-le, length-take-le, take_all, append-nil, map-append}
 use Rattle.std.proofs.lemmas.List.Elements.{filter-append}
-use Rattle.std.proofs.lemmas.List.Folds.{list_any-append, list_all-append}
+use Rattle.std.proofs.lemmas.List.Folds.{list_any-append}
 use Rattle.ctx_set.specs.declared.steps.StackStep.{StackStep}
 use Rattle.reports.specs.Stacks.{is_same}
 use Rattle.reports.specs.Prefixes.{prefixes, distinct, has}
-use Rattle.prefix_table.proofs.Sames.{same_is, same_itself, both}
+use Rattle.reports.proofs.Sames.{same_is, same_sym, both}
 
 -- the prefixes that are held after one more was asked for, where there is room for so many: it is added where it is new and there is room
 abbrev pub entered : ℕ → List (List StackStep) → List StackStep → List (List StackStep)
 entered most held prefix = if has held prefix || not (nat_lt (length held) most) then held else held ++ prefix ∷ []
-
--- the test is symmetric
-same_back : (a b : List StackStep) (r s : Bool) → is_same a b ≡ r → is_same b a ≡ s → r ≡ s
-same_back a b true true e f = refl
-same_back a b false false e f = refl
-same_back a b true false e f = sym (same_itself b) ∙ rw (same_is a b e) at f
-same_back a b false true e f = sym (sym (same_itself a) ∙ rw (same_is b a f) at e)
-
-pub same_sym : (a b : List StackStep) → is_same a b ≡ is_same b a
-same_sym a b = same_back a b (is_same a b) (is_same b a) refl refl
 
 -- what one more brings
 abbrev pub new_one : Bool → List StackStep → List (List StackStep)

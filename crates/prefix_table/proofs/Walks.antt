@@ -6,7 +6,7 @@ use Rattle.std.proofs.lemmas.List.{map-append}
 use Rattle.std.proofs.lemmas.List.Folds.{list_all-append}
 use Rattle.std.proofs.lemmas.List.Sums.{fold-append}
 use Rattle.ctx_set.specs.declared.steps.StackStep.{StackStep}
-use Rattle.reports.specs.Prefixes.{prefixes, has, room}
+use Rattle.reports.specs.Prefixes.{prefixes, has}
 use Rattle.prefix_table.proofs.Firsts.{entered, fold_full}
 
 map_same : {A : Type 0} (xs : List A) → map (λ (x : A). x) xs ≡ xs

@@ -68,6 +68,30 @@ impl PrefixTable {
         parent
     }
 
+    /// How many prefixes there are; no more than there is room for.
+    pub fn len(&self) -> usize
+        ensures count { result ≡ length self.now }
+        ensures room { result ≤ room }
+    {
+        self.edges.len()
+    }
+
+    /// The steps of the prefix with this number, from the first on.
+    pub fn steps(&self, alloc: Global, number: u32) -> Result<Vec<StackStep>, AllocError>
+        requires { number < length self.now }
+        ensures { IfOk result (λ steps. steps.items ≡ slice_index_or self.now number []) }
+    {
+        let mut steps = Vec::new(alloc);
+        let mut rest = Some(number);
+        'up: while let Some(reached) = rest {
+            let edge = self.edges[reached as usize];
+            steps.push(edge.step)?;
+            rest = edge.parent;
+        }
+        steps.reverse();
+        Ok(steps)
+    }
+
     // The prefixes differ, and there are no more than there is room for.
     fn law_firsts(&self)
         ensures { take room (distinct self.now) ≡ self.now }

@@ -1,5 +1,5 @@
 -- The edge has its number, there is no room, or it is added.
-use Rattle.std.proofs.Common.{◌≡◌, ◌<◌, ◌≤◌, ◌++◌, ◌∷◌, [], ℕ, length, get_or, false, None, Some, refl, sym, ap, ◌∙◌, subst, arith}
+use Rattle.std.proofs.Common.{◌≡◌, ◌<◌, ◌≤◌, ◌++◌, ◌∷◌, [], length, get_or, false, Some, refl, sym, ap, ◌∙◌, subst, arith}
 use Rattle.std.specs.HashMap.{Updates}
 use Rattle.std.specs.Vec.{vec_capacity}
 use Rattle.reports.specs.Prefixes.{has, room}

@@ -1,0 +1,3 @@
+pub mod Bits
+pub mod Ordered
+pub mod Sums
