@@ -12,7 +12,7 @@ use Rattle.ctx_set.specs.declared.steps.StackStep.{StackStep}
 use Rattle.context_set.specs.declared.node.Node.{Node}
 use Rattle.context_set.specs.declared.view.CtxView.{CtxView}
 use Rattle.context_set.specs.Paths.{Path, IsStep}
-use Rattle.context_set.specs.Held.{KnowsParent, enters, Known, KnowsNode, path_of}
+use Rattle.context_set.specs.Held.{KnowsParent, enters, Known, KnowsNode, HasOnePath, path_of}
 use Rattle.context_set.specs.Keys.{number_of, key_of, place}
 use Rattle.context_set.specs.Rule.{IsOther, IsSet, IsKept}
 use Rattle.context_set.specs.Steps.{first_view, Tells, found, missed, looked, put, counted, splits, split_off, takes_in, spent, wanted, IsBefore, IsSeat}
@@ -316,10 +316,13 @@ seat_split_off n me made seat is = record {
   lives = ap (λ (m : Me ℕ CtxView). m.0.live) is;
   slots = ap (λ (m : Me ℕ CtxView). m.0.slots) is ∙ seat.slots;
   nodes = λ k there. seat.nodes k (subst (λ (m : Me ℕ CtxView). Contains m.0.held.known k) is there);
-  tells = λ whole.
-      let above = kid_above me.0.held.number me.0.splits in
-      let number : made.0.held.number ≡ kid me.0.held.number me.0.splits = ap (λ (m : Me ℕ CtxView). m.0.held.number) is in
-      absurd (omega (arith, whole.first));
+  tells = record {
+    sound = λ whole.
+        let above = kid_above me.0.held.number me.0.splits in
+        let number : made.0.held.number ≡ kid me.0.held.number me.0.splits = ap (λ (m : Me ℕ CtxView). m.0.held.number) is in
+        absurd (omega (arith, whole.first));
+    known = subst (λ (m : Me ℕ CtxView). HasOnePath m.0.held.known) (sym is) seat.tells.known;
+  };
 }
 
 pub seat_join : (n : ℕ) (me other me' : Me ℕ CtxView) → IsSeat n me → IsSeat n other → me' ≡ (takes_in me.0 other.0, me.1) → Tells me'.0 → IsSeat n me'

@@ -1,11 +1,11 @@
 -- The steps up from a slot: they are those of its path, and no more than there are slots.
-use Rattle.std.proofs.Common.{◌≡◌, ◌≢◌, ◌≤◌, ◌<◌, ◌+◌, ◌-◌, ◌⊎◌, ℕ, zero, suc, ltb, Bool, true, false, cond, Contains, append_assoc, List, [], ◌∷◌, ◌++◌, length, reverse, refl, sym, ap, ◌∙◌, subst, inl, inr, ⊎_elim, length-append, lt-ltb, le-ltb, arith}
+use Rattle.std.proofs.Common.{◌≡◌, ◌≢◌, ◌≤◌, ◌<◌, ◌+◌, ◌-◌, ◌⊎◌, ℕ, zero, suc, ltb, cond, append_assoc, List, [], ◌∷◌, ◌++◌, length, reverse, refl, sym, ap, ◌∙◌, subst, inl, inr, ⊎_elim, length-append, lt-ltb, le-ltb, arith}
 use Rattle.std.proofs.lemmas.Bool.{cases_lt, cases_eq}
 use Rattle.std.proofs.lemmas.List.{reverse-append}
 use Rattle.ctx_set.specs.declared.steps.StackStep.{StackStep}
 use Rattle.context_set.specs.Paths.{Path, IsStep}
 use Rattle.context_set.specs.Keys.{key_of}
-use Rattle.context_set.specs.Rule.{IsWay, IsSlot, Slots}
+use Rattle.context_set.specs.Rule.{IsWay, Slots}
 use Rattle.context_set.specs.Closed.{Climbs}
 use Rattle.context_set.proofs.Paths.{step_is}
 use Rattle.context_set.proofs.KeyLemmas.{key_tells}

@@ -8,7 +8,7 @@ use Rattle.context_set.specs.declared.node.Node.{Node}
 use Rattle.context_set.specs.declared.node.CtxFull.{CtxFull}
 use Rattle.context_set.specs.declared.view.CtxView.{CtxView}
 use Rattle.context_set.specs.Paths.{Path}
-use Rattle.context_set.specs.Held.{KnowsParent, Entry, Known, Joined, Held, enters, path_of, KnowsNode, all_entered, all_counted}
+use Rattle.context_set.specs.Held.{KnowsParent, Entry, Known, Joined, Held, enters, path_of, KnowsNode, others_of, all_entered, all_counted}
 use Rattle.context_set.specs.Keys.{number_of, place}
 use Rattle.context_set.specs.Rule.{IsWay, IsOther, HasPath, IsFull, IsAnswer, Fits, branch_of}
 use Rattle.context_set.specs.Steps.{found, missed, wanted, IsBefore}
@@ -41,18 +41,19 @@ pub record Alike (v w : CtxView) : Type 0 where
   pub branch : branch_of w ≡ branch_of v
   pub more : (e : Entry) → Contains (all_entered v.held) e → Contains (all_entered w.held) e
   pub counted : all_counted w.held ≡ all_counted v.held
-
-abbrev others_of : Held → List Entry
-others_of h = flat_map (λ (j : Joined). j.entered) h.joined
+  pub own : (w.held.entered ≡ v.held.entered) ⊎ ((e : Entry) × (w.held.entered ≡ v.held.entered ++ e ∷ []))
+  pub others : others_of w.held ≡ others_of v.held
 
 pub alike_itself : (v : CtxView) → Alike v v
-alike_itself v = record { branch = refl; more = λ e there. there; counted = refl }
+alike_itself v = record { branch = refl; more = λ e there. there; counted = refl; own = inl refl; others = refl }
 
 pub alike_found : (v : CtxView) (i : ℕ) (p : Path) → Alike v (found v i p)
 alike_found v i p = record {
   branch = refl;
   more = λ e there. middle_more v.held.entered (others_of v.held) record { path = p; answer = Ok record { number = i } } e there;
   counted = refl;
+  own = inr (record { path = p; answer = Ok record { number = i } }, refl);
+  others = refl;
 }
 
 -- the two ways to miss
@@ -73,10 +74,12 @@ alike_refused v p = record {
   branch = refl;
   more = λ e there. middle_more v.held.entered (others_of v.held) record { path = p; answer = Err record {} } e there;
   counted = refl;
+  own = inr (record { path = p; answer = Err record {} }, refl);
+  others = refl;
 }
 
 alike_tried : (v : CtxView) (key tried : ℕ) → Alike v (tried_more v key tried)
-alike_tried v key tried = record { branch = refl; more = λ e there. there; counted = refl }
+alike_tried v key tried = record { branch = refl; more = λ e there. there; counted = refl; own = inl refl; others = refl }
 
 pub alike_missed : (v : CtxView) (key tried : ℕ) (p : Path) → Alike v (missed v key tried p)
 alike_missed v key tried p =

@@ -6,6 +6,7 @@ pub mod Ways
 pub mod Grows
 pub mod Lists
 pub mod Kept
+pub mod Filled
 pub mod SetSteps
 pub mod SetCounts
 pub mod SetJoins
@@ -13,3 +14,4 @@ pub mod Wholes
 pub mod Allowed
 pub mod Climbing
 pub mod Tally
+pub mod Laws

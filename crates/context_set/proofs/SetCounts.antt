@@ -19,6 +19,7 @@ use Rattle.context_set.proofs.Ways.{one_slot}
 use Rattle.context_set.proofs.Grows.{Grows, slot-grows, fits-grows}
 use Rattle.context_set.proofs.Lists.{times-append, firsts-append, times-le-length}
 use Rattle.context_set.proofs.Kept.{middle_cases, known_path}
+use Rattle.context_set.proofs.Filled.{filled_set, filled_same}
 use Rattle.context_set.proofs.SetSteps.{tree_same, was_set, total_set, firsts_set, counts_set}
 
 -- the weight of one count
@@ -186,6 +187,8 @@ module _ (n : ℕ) (r : ℕ → ℕ) (path : ℕ → Path) (views : List CtxView
           (fits-grows n r path r' path grows (counted v (path_of v.held.known node) (r (n + node.number))) w_fits);
       tree = tree_same n r path views is id v there w refl;
       was = λ i inside holds. was_set n r path views is id v there w (λ e in_entered. in_entered) (path i) i (is.was i inside (subst (λ (x : ℕ). 0 < x) (low i inside) holds));
+      filled = filled_set n views is.filled id v there w (λ e in_entered. in_entered)
+          (filled_same n views is.filled id v there w (λ e in_entered. in_entered) refl refl);
       sums = λ i inside holds.
           let before : 0 < r i = subst (λ (x : ℕ). 0 < x) (low i inside) holds in
           let old = is.sums i inside before in

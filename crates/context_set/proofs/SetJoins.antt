@@ -11,12 +11,13 @@ use Rattle.context_set.specs.declared.view.CtxView.{CtxView}
 use Rattle.context_set.specs.Paths.{Path}
 use Rattle.context_set.specs.Held.{Entry, Count, Joined, joins, all_entered, all_counted, times, firsts}
 use Rattle.context_set.specs.Tree.{Branch, IsTree, splitter, offspring, keeper}
-use Rattle.context_set.specs.Rule.{Fits, WasEntered, total, total_firsts, total_counts, branch_of, IsSet}
+use Rattle.context_set.specs.Rule.{Fits, WasEntered, IsFilled, total, total_firsts, total_counts, branch_of, IsSet}
 use Rattle.context_set.specs.Steps.{first_view, splits, split_off, takes_in, spent}
 use Rattle.context_set.proofs.Seats.{at_within, same_at, seats_set, seats_longer}
 use Rattle.context_set.proofs.Tree.{tree_first, IsTree-split, IsTree-join}
 use Rattle.context_set.proofs.Lists.{all_entered-joins, all_counted-joins, sum_by-change, times-append, firsts-append}
 use Rattle.context_set.proofs.Kept.{branches_set}
+use Rattle.context_set.proofs.Filled.{spent_filled, filled_split, filled_join}
 use Rattle.context_set.proofs.SetSteps.{was_set, total_set, firsts_set, counts_set}
 
 -- a set whose slots are empty
@@ -30,6 +31,7 @@ set_first n r empty = record {
   fits = fits;
   tree = tree_first (branch_of (first_view n)) refl refl;
   was = λ i within holds. absurd (omega (arith, empty i));
+  filled = filled;
   sums = λ i within holds. absurd (omega (arith, empty i));
   first = λ few p. refl;
 } where
@@ -49,6 +51,10 @@ set_first n r empty = record {
   fits : (id : ℕ) (v : CtxView) → get_elem? (first_view n ∷ []) id ≡ some v → Fits n r (λ i. []) v
   fits zero v at = subst (λ (u : CtxView). Fits n r (λ i. []) u) (some-injective (first_view n) v at) view_fits
   fits (suc id) v at = let clash : ⊥ = cc in absurd clash
+
+  filled : (id : ℕ) (v : CtxView) → get_elem? (first_view n ∷ []) id ≡ some v → IsFilled n (first_view n ∷ []) id v
+  filled zero v at = subst (λ (u : CtxView). IsFilled n (first_view n ∷ []) 0 u) (some-injective (first_view n) v at) (spent_filled n (first_view n ∷ []) 0 (first_view n) refl)
+  filled (suc id) v at = let clash : ⊥ = cc in absurd clash
 
 module _ (n : ℕ) (r : ℕ → ℕ) (path : ℕ → Path) (views : List CtxView) (is : IsSet n r path views)
     (id : ℕ) (v : CtxView) (there : get_elem? views id ≡ some v) (lives : v.live ≡ true) where
@@ -121,6 +127,7 @@ module _ (n : ℕ) (r : ℕ → ℕ) (path : ℕ → Path) (views : List CtxView
         split_off_fits;
     tree = tree_split;
     was = λ i within holds. was_longer (path i) i (was_set n r path views is id v there (splits v) (λ e in_entered. in_entered) (path i) i (is.was i within holds));
+    filled = filled_split n views is.filled id v there;
     sums = λ i within holds. is.sums i within holds ∙ ap (λ (x : ℕ). x % 2 ^ 64) (sym (split_total (path i)));
     first = λ few p.
         let fewer : total_counts views < 2 ^ 64 = omega (arith, split_counts) in
@@ -257,6 +264,7 @@ module _ (n : ℕ) (r : ℕ → ℕ) (path : ℕ → Path) (views : List CtxView
           spent_fits;
       tree = tree_join;
       was = λ i within holds. was_join (path i) i (is.was i within holds);
+      filled = filled_join n views is.filled id v there from w from_there apart;
       sums = λ i within holds. is.sums i within holds ∙ ap (λ (x : ℕ). x % 2 ^ 64) (sym (join_total (path i)));
       first = λ few p.
           let fewer : total_counts views < 2 ^ 64 = omega (arith, join_counts) in

@@ -1,24 +1,26 @@
 -- The rule goes on at each kind of step.
-use Rattle.std.proofs.Common.{◌≡◌, ◌≢◌, ◌≤◌, ◌<◌, ◌+◌, ◌%◌, ◌^◌, ◌⊎◌, ℕ, zero, suc, eqb, min, true, cond, Option, Ok, List, [], ◌∷◌, ◌++◌, set, length, map, flat_map, Contains, refl, sym, ap, ◌∙◌, subst, inl, inr, ⊎_elim, eq-eqb, ne_eqb, arith}
+use Rattle.std.proofs.Common.{◌≡◌, ◌≢◌, ◌≤◌, ◌<◌, ◌+◌, ◌%◌, ◌^◌, ◌⊎◌, ℕ, zero, suc, eqb, min, true, cond, Option, Result, Ok, Err, List, [], ◌∷◌, ◌++◌, set, length, map, flat_map, Contains, refl, sym, ap, ◌∙◌, subst, inl, inr, ⊎_elim, eq-eqb, ne_eqb, arith}
 use Rattle.std.proofs.lemmas.Bool.{cases_eq, cases_order}
-use Rattle.std.proofs.lemmas.List.Elements.{Contains-append_left, Contains-append_right}
+use Rattle.std.proofs.lemmas.List.Elements.{Contains-push, Contains-append_left, Contains-append_right}
 use mathlib.Core.Option.{some}
 use lib.ListN.{get_elem?}
 use Rattle.atomic_table.proofs.Lists.{at_map, set_here, set_else, set_again}
 use Rattle.ctx_set.specs.declared.steps.StackStep.{StackStep}
 use Rattle.context_set.specs.declared.node.Node.{Node}
+use Rattle.context_set.specs.declared.node.CtxFull.{CtxFull}
 use Rattle.context_set.specs.declared.view.CtxView.{CtxView}
 use Rattle.context_set.specs.Paths.{Path, IsStep}
-use Rattle.context_set.specs.Held.{KnowsParent, Entry, Joined, all_entered, all_counted, times, firsts}
+use Rattle.context_set.specs.Held.{KnowsParent, Entry, Joined, others_of, all_entered, all_counted, times, firsts}
 use Rattle.context_set.specs.Tree.{Branch, IsTree}
 use Rattle.context_set.specs.Keys.{number_of, key_of, place}
-use Rattle.context_set.specs.Rule.{IsWay, IsSlot, Slots, HasPath, Fits, WasEntered, total, total_firsts, total_counts, branch_of, IsSet}
+use Rattle.context_set.specs.Rule.{IsWay, IsSlot, Slots, HasPath, Fits, WasEntered, IsFilled, total, total_firsts, total_counts, branch_of, IsSet}
 use Rattle.context_set.specs.Steps.{found, wanted, IsBefore}
 use Rattle.context_set.proofs.Seats.{at_within, same_at, seats_set}
 use Rattle.context_set.proofs.Ways.{way_key}
 use Rattle.context_set.proofs.Grows.{Grows, holds-grows, way-grows, slot-grows, fits-grows}
 use Rattle.context_set.proofs.Lists.{sum_by-change, sum_by_none, times_none}
 use Rattle.context_set.proofs.Kept.{branches_set, Alike, alike_found, wanted_way, seen_before, found_fits}
+use Rattle.context_set.proofs.Filled.{filled_set, filled_same, filled_entry}
 
 -- an empty slot or one with a key
 cases_zero : (x : ℕ) → (x ≡ 0) ⊎ (0 < x)
@@ -76,6 +78,20 @@ module _ (n : ℕ) (r : ℕ → ℕ) (path : ℕ → Path) (views : List CtxView
       let unchanged : total_firsts p (set views id w) ≡ total_firsts p views = omega (arith, firsts_set w p) in
       unchanged ∙ (is.first fewer p ∙ ap (min 1) (sym (total_same w same p)))
 
+  -- each node was given before a path is refused
+  filled_view : (w : CtxView) → Alike v w → Fits n r path w → IsFilled n (set views id w) id w
+  filled_view w alike fits =
+      ⊎_elim
+      (λ (same : w.held.entered ≡ v.held.entered). filled_same n views is.filled id v there w alike.more same alike.others)
+      (λ (longer : (e : Entry) × (w.held.entered ≡ v.held.entered ++ e ∷ [])).
+      filled_entry n views is.filled id v there w alike.more longer.0 longer.1 alike.others
+      (λ p full is_last i within.
+      let entry : Entry = record { path = p; answer = Err full } in
+      let last : Contains w.held.entered entry = subst (λ (l : List Entry). Contains l entry) (sym longer.1) (subst (λ (e : Entry). Contains (v.held.entered ++ longer.0 ∷ []) e) is_last (Contains-push v.held.entered longer.0)) in
+      let is_full = fits.entered entry (Contains-append_left w.held.entered (others_of w.held) entry last) in
+      (path i, is.was i within (is_full i within).0)))
+      alike.own
+
   -- the view of a seat changes, and no word
   pub keeps_view : (w : CtxView) → Alike v w → Fits n r path w → IsSet n r path (set views id w)
   keeps_view w alike fits = record {
@@ -83,6 +99,7 @@ module _ (n : ℕ) (r : ℕ → ℕ) (path : ℕ → Path) (views : List CtxView
     fits = seats_set (λ i u. Fits n r path u) views id w (λ i u other at. is.fits i u at) fits;
     tree = tree_same w alike.branch;
     was = λ i within holds. was_set w alike.more (path i) i (is.was i within holds);
+    filled = filled_set n views is.filled id v there w alike.more (filled_view w alike fits);
     sums = λ i within holds. is.sums i within holds ∙ ap (λ (x : ℕ). x % 2 ^ 64) (sym (total_same w alike.counted (path i)));
     first = first_same w alike.counted;
   }
@@ -225,6 +242,11 @@ module _ (n : ℕ) (r : ℕ → ℕ) (path : ℕ → Path) (views : List CtxView
               let before : 0 < r i = subst (λ (x : ℕ). 0 < x) (others i other) holds in
               subst (λ (q : Path). WasEntered (set views id w) q i) (sym (path_other i other)) (was_set w alike.more (path i) i (is.was i inside before)))
               (cases_eq i at);
+          filled = filled_set n views is.filled id v there w alike.more
+              (filled_entry n views is.filled id v there w alike.more record { path = p; answer = Ok record { number = at } } refl refl
+              (λ q full clash i inside.
+              let answers : ◌≡◌ {A = Result Node CtxFull} (Ok record { number = at }) (Err full) = ap (λ (e : Entry). e.answer) clash in
+              let none : ⊥ = cc in absurd none));
           sums = λ i inside holds.
               ⊎_elim
               (λ (same : i ≡ at).

@@ -1,20 +1,18 @@
 -- The rows of a closed table are what a whole pass is owed.
-use Rattle.std.proofs.Common.{◌≡◌, ◌≤◌, ◌<◌, ◌+◌, ◌%◌, ◌^◌, ◌⊎◌, ℕ, zero, suc, true, Option, Some, None, Result, Ok, Err, IfOk, List, [], ◌∷◌, ◌++◌, length, map, reverse, slice_index, Contains, refl, sym, ap, ◌∙◌, subst, inl, inr, ⊎_elim, mod-eq_of_lt, arith}
+use Rattle.std.proofs.Common.{◌≡◌, ◌≤◌, ◌<◌, ◌+◌, ◌%◌, ◌^◌, ℕ, zero, suc, true, Some, None, Result, Ok, Err, IfOk, List, [], ◌∷◌, ◌++◌, length, map, reverse, slice_index, Contains, refl, sym, ap, ◌∙◌, subst, ⊎_elim, mod-eq_of_lt, arith}
 use Rattle.std.proofs.lemmas.List.{reverse-reverse, map_push}
 use Rattle.std.proofs.lemmas.List.Elements.{Contains-push, Contains-push_cases, Contains-append_left}
 use Rattle.std.proofs.lemmas.Bool.{cases_eq}
 use mathlib.Core.Option.{some}
 use lib.ListN.{get_elem?}
 use Rattle.atomic_table.specs.Table.{Final, Seen}
-use Rattle.ctx_set.specs.declared.steps.StackStep.{StackStep}
-use Rattle.context_set.specs.declared.node.Node.{Node}
 use Rattle.context_set.specs.declared.count.PathCount.{PathCount}
 use Rattle.context_set.specs.declared.view.CtxView.{CtxView}
 use Rattle.context_set.specs.Paths.{Path}
 use Rattle.context_set.specs.Held.{all_counted, times, IsWhole}
 use Rattle.context_set.specs.Sound.{HasNode, Apart}
 use Rattle.context_set.specs.Rule.{Slots, HasPath, IsSet, IsKept}
-use Rattle.context_set.specs.Closed.{IsTally, Climbs, Rows, none, skip, more, IsRow, HasClimbs}
+use Rattle.context_set.specs.Closed.{IsTally, Rows, none, skip, more, IsRow, HasClimbs}
 use Rattle.context_set.proofs.Ways.{one_slot}
 use Rattle.context_set.proofs.Wholes.{has_entered, whole_total, node_path}
 use Rattle.context_set.proofs.Lists.{times-le-length}

@@ -1,5 +1,5 @@
 -- What is so of a pass that has joined all others.
-use Rattle.std.proofs.Common.{◌≡◌, ◌≢◌, ◌≤◌, ◌<◌, ◌^◌, ℕ, zero, suc, true, false, Ok, Err, List, [], ◌∷◌, length, map, Contains, refl, sym, ap, ◌∙◌, subst, inr, ⊎_elim, arith}
+use Rattle.std.proofs.Common.{◌≡◌, ◌≢◌, ◌≤◌, ◌<◌, ◌^◌, ℕ, zero, suc, true, false, Ok, Err, List, [], ◌∷◌, ◌++◌, length, map, Contains, refl, sym, ap, ◌∙◌, subst, inr, ⊎_elim, arith}
 use Rattle.std.proofs.lemmas.Bool.{cases_Bool}
 use Rattle.std.proofs.lemmas.List.{get_or-map, length-map}
 use mathlib.Core.Option.{some}
@@ -8,9 +8,9 @@ use Rattle.atomic_table.proofs.Lists.{at_map}
 use Rattle.context_set.specs.declared.node.Node.{Node}
 use Rattle.context_set.specs.declared.view.CtxView.{CtxView}
 use Rattle.context_set.specs.Paths.{Path}
-use Rattle.context_set.specs.Held.{Entry, Joined, Held, born, all_entered, all_counted, times, firsts, IsWhole}
+use Rattle.context_set.specs.Held.{Entry, Joined, Held, Gives, born, others_of, all_entered, all_counted, times, firsts, IsWhole}
 use Rattle.context_set.specs.Sound.{HasNode, IsRefused, Apart, TooMany, IsSound}
-use Rattle.context_set.specs.Rule.{HasPath, IsFull, total, total_firsts, total_counts, branch_of, IsSet}
+use Rattle.context_set.specs.Rule.{HasPath, IsFull, IsGivenElsewhere, total, total_firsts, total_counts, branch_of, IsSet}
 use Rattle.context_set.specs.Steps.{Tells}
 use Rattle.context_set.proofs.Seats.{same_at}
 use Rattle.context_set.proofs.Tree.{IsTree-alone}
@@ -136,10 +136,21 @@ module _ (n : ℕ) (most : n ≤ 65536) (r : ℕ → ℕ) (path : ℕ → Path) 
     same_path = λ p q node has has'. sym (node_path p node has).2 ∙ (node_path q node has').2;
     apart = λ p node has refused. let at = node_path p node has in (is_full p refused node.number at.0).1 at.2;
     full = too_many;
+    filled = λ before after p full same i within.
+        ⊎_elim
+        (λ (given : Gives (before ++ others_of v.held) i). given)
+        (λ (elsewhere : IsGivenElsewhere views id i).
+        let none = gone elsewhere.seat elsewhere.view elsewhere.there elsewhere.other in
+        let nowhere : Gives [] i = subst (λ (h : Held). Gives (all_entered h) i) none elsewhere.gives in
+        absurd (omega (arith, nowhere.1.1)))
+        (is.filled id v there before after p full same i within);
   }
 
 -- what a seat knows at any time
 pub tells : (n : ℕ) → n ≤ 65536 → (r : ℕ → ℕ) (path : ℕ → Path) (views : List CtxView) → IsSet n r path views
     → (id : ℕ) (v : CtxView) → get_elem? views id ≡ some v → v.live ≡ true → Tells v
-tells n most r path views is id v there lives whole =
-    subst (λ (slots : ℕ). IsSound slots v.held) (sym ((is.fits id v there).slots lives)) (sound n most r path views is id v there lives whole)
+tells n most r path views is id v there lives =
+    let fits = is.fits id v there in record {
+      sound = λ whole. subst (λ (slots : ℕ). IsSound slots v.held) (sym (fits.slots lives)) (sound n most r path views is id v there lives whole);
+      known = λ a b in_a in_b same. sym (fits.known a in_a).2 ∙ (ap path same ∙ (fits.known b in_b).2);
+    }

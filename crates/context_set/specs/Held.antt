@@ -12,6 +12,10 @@ pub record Entry : Type 0 where
   pub path : Path
   pub answer : Result Node CtxFull
 
+-- the node of this number was given to a path
+abbrev pub Gives : List Entry → ℕ → Type 0
+Gives entries i = (p : Path) × Contains entries record { path = p; answer = Ok record { number = i } }
+
 -- a path was counted, with this answer
 pub record Count : Type 0 where
   pub path : Path
@@ -72,10 +76,18 @@ abbrev pub path_of : List Known → Node → Path
 path_of [] node = []
 path_of (k ∷ ks) node = if k.node.number == node.number then k.path else path_of ks node
 
+-- a node is known as that of one path
+abbrev pub HasOnePath : List Known → Type 0
+HasOnePath known = (a b : Known) → Contains known a → Contains known b → a.node.number ≡ b.node.number → a.path ≡ b.path
+
 -- the path of a step under a node, or of an outermost one
 abbrev pub path_to : List Known → Option Node → StackStep → Path
 path_to known None step = step ∷ []
 path_to known (Some parent) step = path_of known parent ++ step ∷ []
+
+-- what the passes joined into it entered
+abbrev pub others_of : Held → List Entry
+others_of h = flat_map (λ (j : Joined). j.entered) h.joined
 
 -- all lists that the pass holds: its own and those of the passes joined into it
 abbrev pub all_entered : Held → List Entry

@@ -8,7 +8,7 @@ use Rattle.context_set.specs.declared.node.Node.{Node}
 use Rattle.context_set.specs.declared.node.CtxFull.{CtxFull}
 use Rattle.context_set.specs.declared.view.CtxView.{CtxView}
 use Rattle.context_set.specs.Paths.{Path, IsStep}
-use Rattle.context_set.specs.Held.{Entry, Count, Known, Joined, born, all_entered, all_counted, times, firsts}
+use Rattle.context_set.specs.Held.{Entry, Count, Known, Joined, Gives, born, others_of, all_entered, all_counted, times, firsts}
 use Rattle.context_set.specs.Tree.{Branch, IsTree}
 use Rattle.context_set.specs.Keys.{key_of, place}
 
@@ -63,6 +63,20 @@ pub record WasEntered (views : List CtxView) (p : Path) (i : ℕ) : Type 0 where
   pub there : get_elem? views seat ≡ some view
   pub entry : Contains (all_entered view.held) record { path = p; answer = Ok record { number = i } }
 
+-- another seat has the entry that gave the node
+pub record IsGivenElsewhere (views : List CtxView) (id i : ℕ) : Type 0 where
+  pub seat : ℕ
+  pub view : CtxView
+  pub there : get_elem? views seat ≡ some view
+  pub other : seat ≢ id
+  pub gives : Gives (all_entered view.held) i
+
+-- before a path was refused to the pass of a seat, each node had been given, to it or to another
+abbrev pub IsFilled : ℕ → List CtxView → ℕ → CtxView → Type 0
+IsFilled n views id v =
+    (before after : List Entry) (p : Path) (full : CtxFull) → v.held.entered ≡ before ++ record { path = p; answer = Err full } ∷ after
+    → (i : ℕ) → i < n → Gives (before ++ others_of v.held) i ⊎ IsGivenElsewhere views id i
+
 -- how often all passes counted a path, how often as the first, and how often they counted
 abbrev pub total : Path → List CtxView → ℕ
 total p views = sum_by (λ (v : CtxView). times p (all_counted v.held)) views
@@ -81,6 +95,7 @@ pub record IsSet (n : ℕ) (r : ℕ → ℕ) (path : ℕ → Path) (views : List
   pub fits : (id : ℕ) (v : CtxView) → get_elem? views id ≡ some v → Fits n r path v
   pub tree : IsTree (map branch_of views)
   pub was : (i : ℕ) → i < n → 0 < r i → WasEntered views (path i) i
+  pub filled : (id : ℕ) (v : CtxView) → get_elem? views id ≡ some v → IsFilled n views id v
   pub sums : (i : ℕ) → i < n → 0 < r i → r (n + i) ≡ total (path i) views % 2 ^ 64
   pub first : total_counts views < 2 ^ 64 → (p : Path) → total_firsts p views ≡ min 1 (total p views)
 

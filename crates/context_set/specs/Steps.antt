@@ -6,14 +6,15 @@ use Rattle.context_set.specs.declared.node.Node.{Node}
 use Rattle.context_set.specs.declared.node.Counted.TheVariants.{First, Again}
 use Rattle.context_set.specs.declared.view.CtxView.{CtxView}
 use Rattle.context_set.specs.Paths.{Path}
-use Rattle.context_set.specs.Held.{Known, born, enters, counts, makes, joins, path_of, path_to, IsWhole}
+use Rattle.context_set.specs.Held.{Known, born, enters, counts, makes, joins, path_of, path_to, HasOnePath, IsWhole}
 use Rattle.context_set.specs.Sound.{IsSound}
 use Rattle.context_set.specs.Tree.{kid}
 use Rattle.context_set.specs.Keys.{number_of, key_of}
 
 -- what a pass at a seat knows of the rule
-abbrev pub Tells : CtxView → Type 0
-Tells v = IsWhole v.held → IsSound v.slots v.held
+pub record Tells (v : CtxView) : Type 0 where
+  pub sound : IsWhole v.held → IsSound v.slots v.held
+  pub known : HasOnePath v.held.known
 
 abbrev pub first_view : ℕ → CtxView
 first_view n = record { live = true; held = born 0 []; splits = 0; slots = n; trying = 0; tried = 0 }

@@ -32,6 +32,7 @@ impl CtxSet {
 
     /// The node of the path of a step: alone, or under the path of a parent. Equal paths have equal nodes, and different paths
     /// different ones. Targets are below 8,192, sites below 2^20. `CtxFull` comes only where every slot holds another path.
+    #[tactic(auto, using(crate::proofs::Laws::entered_path))]
     pub fn enter(
         &self,
         pass: &mut CtxPass,
@@ -43,6 +44,7 @@ impl CtxSet {
         requires step { IsStep step }
         ensures held { held_of pass.new ≡ enters (held_of pass.old) (path_to (held_of pass.old).known parent step) result }
         ensures known { IfOk result (λ node. KnowsNode (held_of pass.new) node) }
+        ensures path { IfOk result (λ node. path_of (held_of pass.new).known node ≡ path_to (held_of pass.old).known parent step) }
         ensures pass { IsPassOf (place_of self.now) pass.new }
     {
         let ask = Ask {

@@ -1,4 +1,4 @@
-use Rattle.std.proofs.Common.{◌≡◌, ◌<◌, ◌≤◌, ◌+◌, ℕ, List, ◌∷◌, ◌++◌, [], length, slice_index, sym, ap, ◌∙◌, subst, arith}
+use Rattle.std.proofs.Common.{◌≡◌, ◌<◌, ◌≤◌, ℕ, List, ◌++◌, slice_index, sym, ◌∙◌, subst, arith}
 use Rattle.std.specs.Mem.Slots.{slots_items}
 use Rattle.ctx_set.specs.declared.steps.StackStep.{StackStep}
 use Rattle.context_set.specs.Paths.{IsStep}

@@ -1,4 +1,4 @@
-use Rattle.std.proofs.Common.{◌≡◌, ◌≤◌, ◌+◌, List, ◌++◌, length, slice_index}
+use Rattle.std.proofs.Common.{◌≤◌, ◌+◌, List, ◌++◌, length, slice_index}
 use Rattle.std.specs.Mem.Slots.{slots_items}
 use Rattle.ctx_set.specs.declared.steps.StackStep.{StackStep}
 use Rattle.context_set.specs.Closed.{Climbs}

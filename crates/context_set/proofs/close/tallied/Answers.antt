@@ -1,4 +1,4 @@
-use Rattle.std.proofs.Common.{◌≡◌, List, slice_index, sym, subst}
+use Rattle.std.proofs.Common.{List, slice_index, sym, subst}
 use Rattle.std.specs.Mem.Slots.{slots_items}
 use Rattle.context_set.specs.declared.count.PathCount.{PathCount}
 use Rattle.context_set.specs.Closed.{Rows, none}

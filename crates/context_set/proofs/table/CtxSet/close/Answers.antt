@@ -1,4 +1,4 @@
-use Rattle.std.proofs.Common.{◌≡◌, ◌≤◌, slice_index}
+use Rattle.std.proofs.Common.{slice_index}
 use Rattle.std.specs.Mem.Slots.{slots_items}
 use Rattle.context_set.specs.Closed.{IsTally, Rows}
 use Rattle.context_set.specs.Passes.{held_of}

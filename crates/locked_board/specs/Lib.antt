@@ -1,0 +1,3 @@
+pub mod Books
+pub mod Locked
+pub mod Places
