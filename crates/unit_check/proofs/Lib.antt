@@ -1,0 +1,4 @@
+pub mod Picks
+pub mod Places
+pub mod Told
+pub mod Turns
