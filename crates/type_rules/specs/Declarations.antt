@@ -25,10 +25,12 @@ use Rattle.type_rules.specs.InitialValues.{initial_values}
 use Rattle.type_rules.specs.Initializers.{automatic_initializer, static_initializer, initial_size, init_place}
 use Rattle.type_rules.specs.Reading.{Rule, ◌>>=◌, ◌>>◌, gives, fails, refused, seen, text_of, name_number, meaning_here, declared, changes}
 use Rattle.type_rules.specs.Recursion.{specifier, declarator}
+use Rattle.type_rules.specs.declared.durations.Duration.{Duration}
+use Rattle.type_rules.specs.declared.durations.Duration.TheVariants.{Automatic as IsAutomatic, Static as IsStatic, ThreadLocal as IsThreadLocal}
 use Rattle.type_rules.specs.declared.names.Entity.{Entity}
 use Rattle.type_rules.specs.declared.names.Entity.TheVariants.{Variable, Function, TypeName}
 use Rattle.type_rules.specs.Specifiers.{Specifiers, no_specifiers}
-use Rattle.type_rules.specs.Storage.{Duration, IsAutomatic, IsStatic, IsThreadLocal, kept_for, initially}
+use Rattle.type_rules.specs.Storage.{kept_for, initially}
 use Rattle.type_rules.specs.Types.{is_incomplete}
 use Rattle.c_tree.specs.declared.expressions.Spec.{Spec}
 
@@ -66,32 +68,32 @@ typedef_declared d here = do
   no_initializer d.init
 
 -- A function, as one declaration has it.
-abbrev pub function_of : Named → FnType → Bool → FunctionDeclaration
-function_of d f has_body = record {
-  name = d.name;
-  number = d.number;
-  made = d.made;
+abbrev pub function_of : Span → ℕ → Specifiers → Made → FnType → Bool → FunctionDeclaration
+function_of name number b m f has_body = record {
+  name = name;
+  number = number;
+  made = m;
   kind = f;
-  internal = d.specifiers.is_static;
+  internal = b.is_static;
   has_body = has_body;
-  mistyped = d.made.mistyped || d.specifiers.is_thread_local;
+  mistyped = m.mistyped || b.is_thread_local;
 }
 
 unfoldable pub function_named : Named → FnType → Option Entity → Rule (Unit {0})
 function_named d f here = do
-  number ← function_declared (function_of d f false) here
+  number ← function_declared (function_of d.name d.number d.specifiers d.made f false) here
   no_initializer d.init
 
 -- An array without a size takes it from its initializer.
+abbrev pub sized_by : Init → CType → Bool → Rule CType
+sized_by i t true = do
+  n ← initial_size (element_of t) i
+  gives (array_of (element_of t) n)
+sized_by i t false = gives t
+
 abbrev pub sized : Option Init → CType → Rule CType
 sized None t = gives t
-sized (Some i) t = of (is_unsized t)
-  where
-    of : Bool → Rule CType
-    of true = do
-      n ← initial_size (element_of t) i
-      gives (array_of (element_of t) n)
-    of false = gives t
+sized (Some i) t = sized_by i t (is_unsized t)
 
 -- Where a variable is kept. At file scope it is static without a word, and in a block automatic.
 abbrev pub file_duration : Specifiers → Duration
@@ -100,25 +102,25 @@ file_duration b = if b.is_thread_local then IsThreadLocal else IsStatic
 abbrev pub block_duration : Specifiers → Duration
 block_duration b = if b.is_thread_local then IsThreadLocal else if b.is_static then IsStatic else IsAutomatic
 
-abbrev pub variable_mistyped : Named → Bool
-variable_mistyped d = d.made.mistyped || d.made.noreturn
+abbrev pub is_mistyped : Made → Bool
+is_mistyped m = m.mistyped || m.noreturn
 
 -- The first declaration of a variable of file scope: zero words, until an initializer says otherwise.
-abbrev pub first_variable : Named → CType → Rule Storage
-first_variable d t = do
+abbrev pub first_variable : Span → ℕ → Specifiers → Made → Bool → CType → Rule Storage
+first_variable name number b m initialized t = do
   s ← seen
-  faults false (variable_mistyped d) d.made.conflicting (d.made.incomplete || is_incomplete s.structures t) d.name.start
-  storage ← kept_for (file_duration d.specifiers) (words_of s.structures t) (Some (length s.variables))
+  faults false (is_mistyped m) m.conflicting (m.incomplete || is_incomplete s.structures t) name.start
+  storage ← kept_for (file_duration b) (words_of s.structures t) (Some (length s.variables))
   changes (λ u. record u {
     variables = u.variables ++ record {
-      name = text_of u.source d.name;
+      name = text_of u.source name;
       kind = t;
-      internal = d.specifiers.is_static;
-      thread_local = d.specifiers.is_thread_local;
-      initialized = is_some d.init;
+      internal = b.is_static;
+      thread_local = b.is_thread_local;
+      initialized = initialized;
     } ∷ [];
   })
-  declared d.number (Variable d.made.kind storage (Some (length s.variables)))
+  declared number (Variable m.kind storage (Some (length s.variables)))
   gives storage
 
 abbrev pub same_words : Bool → Bool → Bool
@@ -126,26 +128,22 @@ same_words true b = b
 same_words false b = not b
 
 -- A further one: of the same type, thread-local where the first is, at most one with an initializer.
-abbrev pub further_variable : Named → CType → ℕ → Storage → Option VariableInfo → Rule Storage
-further_variable d t number storage None = fails 2 d.name.start
-further_variable d t number storage (Some v) = do
-  faults (v.initialized && is_some d.init)
-      (variable_mistyped d || not (same v.kind t) || not (same_words v.thread_local d.specifiers.is_thread_local))
-      d.made.conflicting d.made.incomplete d.name.start
+abbrev pub further_variable : Span → Specifiers → Made → Bool → CType → ℕ → Storage → Option VariableInfo → Rule Storage
+further_variable name b m initialized t number storage None = fails 2 name.start
+further_variable name b m initialized t number storage (Some v) = do
+  faults (v.initialized && initialized) (is_mistyped m || not (same v.kind t) || not (same_words v.thread_local b.is_thread_local))
+      m.conflicting m.incomplete name.start
   changes (λ s. record s {
-    variables = slice_set s.variables number (record v {
-      internal = v.internal || d.specifiers.is_static;
-      initialized = v.initialized || is_some d.init;
-    });
+    variables = slice_set s.variables number (record v { internal = v.internal || b.is_static; initialized = v.initialized || initialized });
   })
   gives storage
 
-abbrev pub file_variable : Named → CType → Option Entity → Rule Storage
-file_variable d t None = first_variable d t
-file_variable d t (Some (Variable u storage (Some number))) = do
+abbrev pub file_variable : Span → ℕ → Specifiers → Made → Bool → CType → Option Entity → Rule Storage
+file_variable name own b m initialized t None = first_variable name own b m initialized t
+file_variable name own b m initialized t (Some (Variable u storage (Some number))) = do
   s ← seen
-  further_variable d t number storage (slice_get s.variables number)
-file_variable d t (Some e) = fails 2 d.name.start
+  further_variable name b m initialized t number storage (slice_get s.variables number)
+file_variable name own b m initialized t (Some e) = fails 2 name.start
 
 -- What an object of static storage holds at first is constant.
 abbrev pub statically : Option Init → CType → Storage → Rule (Unit {0})
@@ -159,18 +157,18 @@ abbrev pub with_size : CType → ℕ → Option Entity → Rule (Unit {0})
 with_size t name (Some (Variable u storage number)) = declared name (Variable t storage number)
 with_size t name _ = gives tt
 
-abbrev pub array_completed : Named → CType → Bool → Rule (Unit {0})
-array_completed d t true = do
-  here ← meaning_here d.number
-  with_size t d.number here
-array_completed d t false = gives tt
+abbrev pub array_completed : ℕ → CType → Bool → Rule (Unit {0})
+array_completed number t true = do
+  here ← meaning_here number
+  with_size t number here
+array_completed number t false = gives tt
 
 unfoldable pub variable_named : Named → Option Entity → Rule (Unit {0})
 variable_named d here = do
   t ← sized d.init d.made.kind
-  storage ← file_variable d t here
+  storage ← file_variable d.name d.number d.specifiers d.made (is_some d.init) t here
   statically d.init t storage
-  array_completed d t (is_unsized d.made.kind)
+  array_completed d.number t (is_unsized d.made.kind)
 
 -- A name of file scope is a typedef name, a function or a variable.
 abbrev pub name_declared : Named → Option FnType → Option Entity → Rule (Unit {0})
@@ -183,15 +181,15 @@ file_name d = do
   if d.specifiers.is_typedef then typedef_declared d here else name_declared d (function_in d.made.kind) here
 
 -- what stands behind the specifiers, up to an initializer
+abbrev pub named_at : Specifiers → Shape → Option Init → (Named → Rule (List Stmt)) → Option Span → Rule (List Stmt)
+named_at b d i next None = gives []
+named_at b d i next (Some name) = do
+  m ← made_here b d name.start
+  number ← name_number name
+  next (record { name = name; number = number; specifiers = b; made = m; init = i })
+
 abbrev pub named_by : Specifiers → Shape → Option Init → (Named → Rule (List Stmt)) → Rule (List Stmt)
-named_by b d i next = of d.name
-  where
-    of : Option Span → Rule (List Stmt)
-    of None = gives []
-    of (Some name) = do
-      m ← made_here b d name.start
-      number ← name_number name
-      next (record { name = name; number = number; specifiers = b; made = m; init = i })
+named_by b d i next = named_at b d i next d.name
 
 unfoldable pub init_declarator : Specifiers → (Named → Rule (List Stmt)) → InitDeclarator → Rule (List Stmt)
 init_declarator b next d = do
@@ -200,10 +198,7 @@ init_declarator b next d = do
 
 -- Attributes and `_Noreturn` belong to a declared function.
 abbrev pub is_attributed : Specifiers → Bool
-is_attributed b = b.is_noreturn || not (is_empty b)
-  where
-    is_empty : Specifiers → Bool
-    is_empty b = nat_eq (length b.attributes) 0
+is_attributed b = b.is_noreturn || not (nat_eq (length b.attributes) 0)
 
 abbrev pub init_declarators : Specifiers → (Named → Rule (List Stmt)) → List InitDeclarator → Rule (List Stmt)
 init_declarators b next [] = gives []
@@ -238,17 +233,33 @@ block_initializer duration t (Some i) storage words = do
   initially storage (initial_values (where_in storage) given)
   gives given
 
+-- how many words it has, where it may be declared
+abbrev pub block_words : Span → ℕ → Made → CType → Rule ℕ
+block_words name number m t = do
+  here ← meaning_here number
+  s ← seen
+  faults (is_some here) (is_mistyped m || is_function t) m.conflicting (m.incomplete || is_incomplete s.structures t) name.start
+  gives (words_of s.structures t)
+
+abbrev pub block_kept : ℕ → Duration → CType → ℕ → Rule Storage
+block_kept number duration t words = do
+  storage ← kept_for duration words None
+  declared number (Variable t storage None)
+  gives storage
+
+-- `unsized`: the array has no size in its declarator
+abbrev pub block_initialized : ℕ → Duration → Bool → CType → Option Init → Storage → ℕ → Rule Initializer
+block_initialized number duration unsized t init storage words = do
+  i ← block_initializer duration t init storage words
+  array_completed number t unsized
+  gives i
+
 unfoldable pub block_name : Named → Rule (List Stmt)
 block_name d = do
   t ← sized d.init d.made.kind
-  here ← meaning_here d.number
-  s ← seen
-  faults (is_some here) (variable_mistyped d || is_function t) d.made.conflicting (d.made.incomplete || is_incomplete s.structures t) d.name.start
-  let words = words_of s.structures t
-  storage ← kept_for (block_duration d.specifiers) words None
-  declared d.number (Variable d.made.kind storage None)
-  i ← block_initializer (block_duration d.specifiers) t d.init storage words
-  array_completed d t (is_unsized d.made.kind)
+  words ← block_words d.name d.number d.made t
+  storage ← block_kept d.number (block_duration d.specifiers) d.made.kind words
+  i ← block_initialized d.number (block_duration d.specifiers) (is_unsized d.made.kind) t d.init storage words
   gives (stmt.Variable (record { place = d.name.start; storage = storage; kind = t; initializer = i }) ∷ [])
 
 unfoldable pub block_declaration : Decl → Rule (List Stmt)
@@ -259,29 +270,33 @@ is_defined (Some f) = is_some f.body
 is_defined None = false
 
 -- The name of a definition that isn't one is declared here already, as another kind of name or as a function with a body.
-abbrev pub is_redefined : List FunctionInfo → Option FnType → Option Entity → Bool
-is_redefined functions f None = false
-is_redefined functions (Some f) (Some (Function number)) = is_defined (slice_get functions number)
-is_redefined functions None (Some (Variable t storage (Some number))) = false
-is_redefined functions f (Some e) = true
+abbrev pub is_redefined : List FunctionInfo → Bool → Option Entity → Bool
+is_redefined functions is_function None = false
+is_redefined functions true (Some (Function number)) = is_defined (slice_get functions number)
+is_redefined functions false (Some (Variable t storage (Some number))) = false
+is_redefined functions is_function (Some e) = true
+
+-- what makes no function
+abbrev pub not_defined : Span → Bool → Option Entity → Rule (Unit {0})
+not_defined name is_function here = do
+  s ← seen
+  refused (is_redefined s.functions is_function here) 2 name.start
+  fails 3 name.start
 
 abbrev pub defined_as : Named → Option FnType → Option (List Parameter) → Rule (List Stmt) → Option Entity → Rule (Unit {0})
 defined_as d (Some f) (Some ps) block here = do
-  number ← function_declared (function_of d f true) here
+  number ← function_declared (function_of d.name d.number d.specifiers d.made f true) here
   body_read number f ps block
-defined_as d f _ block here = do
-  s ← seen
-  refused (is_redefined s.functions f here) 2 d.name.start
-  fails 3 d.name.start
+defined_as d f _ block here = not_defined d.name (is_some f) here
 
-abbrev pub typedef_defined : Named → Option Entity → Rule (Unit {0})
-typedef_defined d here = do
-  refused (is_other_type here d.made.kind) 2 d.name.start
-  fails 3 d.name.start
+abbrev pub typedef_defined : Span → Made → Option Entity → Rule (Unit {0})
+typedef_defined name m here = do
+  refused (is_other_type here m.kind) 2 name.start
+  fails 3 name.start
 
 -- A definition (C17 6.9.1): without `typedef`, and its declarator makes the name a function by a parameter list of its own.
 abbrev pub definition_named : Named → Option FnType → Option (List Parameter) → Rule (List Stmt) → Option Entity → Rule (Unit {0})
-definition_named d f ps block here = if d.specifiers.is_typedef then typedef_defined d here else defined_as d f ps block here
+definition_named d f ps block here = if d.specifiers.is_typedef then typedef_defined d.name d.made here else defined_as d f ps block here
 
 unfoldable pub defined_name : Rule (List Stmt) → Named → Rule (Unit {0})
 defined_name block d = do

@@ -6,6 +6,8 @@ use Rattle.core_unit.specs.Layout.{told, words_of}
 use Rattle.core_unit.specs.declared.expressions.Storage.{Storage}
 use Rattle.core_unit.specs.declared.expressions.Storage.TheVariants.{Automatic, Static, ThreadLocal}
 use Rattle.type_rules.specs.Reading.{Rule, Good, ◌>>=◌, gives, changes}
+use Rattle.type_rules.specs.declared.durations.Duration.{Duration}
+use Rattle.type_rules.specs.declared.durations.Duration.TheVariants.{Automatic as IsAutomatic, Static as IsStatic, ThreadLocal as IsThreadLocal}
 use Rattle.type_rules.specs.declared.notes.Initial.{Initial}
 
 -- the words of an object of the type
@@ -37,11 +39,6 @@ initially (Static address) values = changes (λ s. record s { static_values = s.
 initially (ThreadLocal offset) values = changes (λ s. record s { thread_values = s.thread_values ++ values })
 
 -- Where an object of so many words is kept by the words of its declaration. Inside a function it is automatic without `static`.
-pub data Duration : Type 0 where
-  IsAutomatic : Duration
-  IsStatic : Duration
-  IsThreadLocal : Duration
-
 abbrev pub kept_for : Duration → ℕ → Option ℕ → Rule Storage
 kept_for IsAutomatic words variable = do
   offset ← allot_automatic words

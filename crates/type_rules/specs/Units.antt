@@ -21,6 +21,7 @@ use Rattle.type_rules.specs.Seen.{Seen}
 use Rattle.type_rules.specs.Statements.{block_items}
 use Rattle.type_rules.specs.declared.names.Entity.{Entity}
 use Rattle.type_rules.specs.declared.names.Entity.TheVariants.{TypeName, Library, NullPointer, MutexInitializer}
+use Rattle.type_rules.specs.declared.names.Tag.{Tag}
 use Rattle.type_rules.specs.declared.notes.Initial.{Initial}
 use Rattle.type_rules.specs.declared.notes.TypeWarning.{TypeWarning}
 
@@ -41,15 +42,15 @@ numbered first (a ∷ rest) = (first, a) ∷ numbered (first + 1) rest
 abbrev pub reserved_scope : Scope Entity
 reserved_scope = numbered 0 (map (λ r. r.1) reserved)
 
--- what is known before the first declaration
-abbrev pub opening : List ℕ → List ℕ → List Effects → Seen
-opening source marks whole = record {
+-- a source of which no declaration was read, with the names that are known and what they mean
+abbrev pub unread : (source marks : List ℕ) → List Effects → (names : List (List ℕ)) → List (Scope Entity) → List (Scope Tag) → Seen
+unread source marks whole names scopes tags = record {
   source = source;
   marks = marks;
   whole = whole;
-  names = map (λ r. r.0) reserved;
-  scopes = [] ∷ reserved_scope ∷ [];
-  tags = [] ∷ [];
+  names = names;
+  scopes = scopes;
+  tags = tags;
   functions = [];
   definitions = [];
   variables = [];
@@ -66,6 +67,10 @@ opening source marks whole = record {
   result = Void;
   warnings = [];
 }
+
+-- what is known before the first declaration
+abbrev pub opening : List ℕ → List ℕ → List Effects → Seen
+opening source marks whole = unread source marks whole (map (λ r. r.0) reserved) ([] ∷ reserved_scope ∷ []) ([] ∷ [])
 
 -- an external declaration (C17 6.9)
 abbrev pub external_read : External → Rule (Unit {0})

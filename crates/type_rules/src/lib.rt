@@ -3,12 +3,14 @@
 #![tactic(auto)]
 
 mod declarators;
+mod durations;
 mod found;
 mod names;
 mod notes;
 mod specifiers;
 
 pub use declarators::{FunctionDeclaration, Made, Parameter, Part, Shape};
+pub use durations::Duration;
 pub use found::{Constant, Form, Found, Operand, Pair, Worth};
 pub use names::{Entity, Tag};
 pub use notes::{Initial, TypeWarning};
