@@ -1,1 +1,3 @@
 pub mod Answers
+pub mod Functions
+pub mod Variables

@@ -1,10 +1,11 @@
 //! Functions and variables of file scope.
 
 ghost use Rattle.std.specs.Prelude.{◌≡◌, OnOk, IfOk, ◌++◌, ◌∷◌, [], length, slice_get, slice_set};
-ghost use Rattle.std.specs.Option.{option_copied};
+ghost use Rattle.typing_state.specs.Variables.{variable_at};
+ghost use Rattle.typing_state.specs.Functions.{changed_at, redeclared, defined};
 
 use crate::state::Typing;
-use core_unit::{FunctionInfo, VariableInfo};
+use core_unit::{Body, FunctionInfo, VariableInfo};
 use eff_types::{CType, Effects};
 use sqlite_items::Boxed;
 use std::alloc::AllocError;
@@ -44,13 +45,35 @@ impl<'a> Typing<'a> {
         Ok(number as u32)
     }
 
-    /// Replaces a function; one that isn't there stays away.
-    pub fn set_function(&mut self, number: u32, function: FunctionInfo)
-        ensures { self.new ≡ record self.old { functions = slice_set self.old.functions number function } }
+    /// Adds to a function what a further declaration says: its effects then, and whether it doesn't return or is internal; one
+    /// that isn't there stays away.
+    pub fn redeclare_function(
+        &mut self,
+        number: u32,
+        effects: Effects,
+        noreturn: bool,
+        internal: bool,
+    )
+        ensures { self.new ≡ record self.old { functions = changed_at (redeclared effects noreturn internal) number self.old.functions } }
     {
         let at = number as usize;
         if at < self.functions.len() {
-            self.functions.set(at, function);
+            let function = &mut self.functions[at];
+            function.kind.effects = effects;
+            function.noreturn = noreturn;
+            function.internal = internal;
+        }
+    }
+
+    /// Gives a function its body, with the words of its frame; one that isn't there stays away.
+    pub fn set_body(&mut self, number: u32, body: Body, frame_words: u32)
+        ensures { self.new ≡ record self.old { functions = changed_at (defined body frame_words) number self.old.functions } }
+    {
+        let at = number as usize;
+        if at < self.functions.len() {
+            let function = &mut self.functions[at];
+            function.body = Some(body);
+            function.frame_words = frame_words;
         }
     }
 
@@ -103,14 +126,16 @@ impl<'a> Typing<'a> {
         Ok(number as u32)
     }
 
-    /// Says of a variable of file scope that a declaration is `static`, or that one has an initializer; one that isn't there
-    /// stays away.
-    pub fn set_variable(&mut self, number: u32, variable: VariableInfo)
-        ensures { self.new ≡ record self.old { variables = slice_set self.old.variables number variable } }
+    /// Says of a variable of file scope whether a declaration is `static`, and whether one has an initializer; one that isn't
+    /// there stays away.
+    pub fn redeclare_variable(&mut self, number: u32, internal: bool, initialized: bool)
+        ensures { self.new ≡ record self.old { variables = variable_at internal initialized number self.old.variables } }
     {
         let at = number as usize;
         if at < self.variables.len() {
-            self.variables.set(at, variable);
+            let variable = &mut self.variables[at];
+            variable.internal = internal;
+            variable.initialized = initialized;
         }
     }
 }

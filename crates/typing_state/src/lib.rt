@@ -3,6 +3,7 @@
 
 mod functions;
 mod names;
+mod opening;
 mod state;
 mod stop;
 mod storage;

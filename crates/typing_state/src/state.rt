@@ -19,9 +19,9 @@ pub struct Typing<'a> {
     pub(crate) names: Names<'a>,
     pub(crate) scopes: Scopes<Entity>,
     pub(crate) tags: Scopes<Tag>,
-    pub(crate) functions: Items<FunctionInfo>,
+    pub(crate) functions: Vec<FunctionInfo>,
     pub(crate) definitions: Items<u32>,
-    pub(crate) variables: Items<VariableInfo>,
+    pub(crate) variables: Vec<VariableInfo>,
     pub(crate) structures: Items<StructInfo>,
     pub(crate) sizes: Items<u32>,
     pub(crate) statics: Items<Object>,
@@ -56,9 +56,9 @@ impl<'a> Model for Typing<'a> {
       names = t.names;
       scopes = t.scopes;
       tags = t.tags;
-      functions = t.functions;
+      functions = t.functions.items;
       definitions = t.definitions;
-      variables = t.variables;
+      variables = t.variables.items;
       structures = t.structures;
       sizes = t.sizes;
       statics = t.statics;
