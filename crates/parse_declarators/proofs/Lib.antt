@@ -1,6 +1,3 @@
-pub mod Lines
 pub mod Pointing
 pub mod Directs
-pub mod Nesting
-pub mod Listing
 pub mod Grouping

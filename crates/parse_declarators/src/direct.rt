@@ -6,7 +6,7 @@ ghost use Rattle.c_grammar.specs.Declarators.{direct_start, direct_step, array_r
 ghost use Rattle.c_grammar.specs.Lexemes.{place};
 ghost use Rattle.parse_input.specs.Input.{head, behind};
 ghost use Rattle.parse_input.specs.Reads.{named, reads, joined, Says};
-ghost use Rattle.parse_declarators.specs.Nested.{Nested};
+ghost use Rattle.parse_parameters.specs.Nested.{Nested};
 ghost use Rattle.parse_declared.specs.Starts.{function_parts, params_parts};
 
 use crate::parser::Declarators;
@@ -41,7 +41,7 @@ impl<
         bracket: Bracket,
         input: &mut Input<'a>,
     ) -> Result<Read<Declared<'a>>, Refusal>
-        requires nested { Nested (2 * (limits.opens + limits.room)) (C.pre self.now.specifiers.conditional) (C.post self.now.specifiers.conditional) (D.pre self.now.declarator) (D.post self.now.declarator) (M.pre self.now.specifiers.members) (M.post self.now.specifiers.members) }
+        requires nested { Nested (2 * (limits.opens + limits.room)) (C.pre self.now.rules.specifiers.conditional) (C.post self.now.rules.specifiers.conditional) (D.pre self.now.rules.declarator) (D.post self.now.rules.declarator) (M.pre self.now.rules.specifiers.members) (M.post self.now.rules.specifiers.members) }
         ensures reads { Says (named limits.room (NamedDeclarator input.old.scope kind bracket) input.old.tokens) result input.new.tokens }
         ensures kept { IfOk result (λ read. input.new.scope ≡ input.old.scope) }
     {
@@ -64,7 +64,7 @@ impl<
         bracket: Bracket,
         input: &mut Input<'a>,
     ) -> Result<Read<Declared<'a>>, Refusal>
-        requires nested { Nested (2 * (limits.opens + limits.room)) (C.pre self.now.specifiers.conditional) (C.post self.now.specifiers.conditional) (D.pre self.now.declarator) (D.post self.now.declarator) (M.pre self.now.specifiers.members) (M.post self.now.specifiers.members) }
+        requires nested { Nested (2 * (limits.opens + limits.room)) (C.pre self.now.rules.specifiers.conditional) (C.post self.now.rules.specifiers.conditional) (D.pre self.now.rules.declarator) (D.post self.now.rules.declarator) (M.pre self.now.rules.specifiers.members) (M.post self.now.rules.specifiers.members) }
         ensures reads { Says (named limits.room (Direct input.old.scope kind bracket) input.old.tokens) result input.new.tokens }
         ensures kept { IfOk result (λ read. input.new.scope ≡ input.old.scope) }
     {
@@ -90,26 +90,26 @@ impl<
         bracket: Bracket,
         input: &mut Input<'a>,
     ) -> Result<Read<Declared<'a>>, Refusal>
-        requires nested { Nested (2 * (limits.opens + limits.room)) (C.pre self.now.specifiers.conditional) (C.post self.now.specifiers.conditional) (D.pre self.now.declarator) (D.post self.now.declarator) (M.pre self.now.specifiers.members) (M.post self.now.specifiers.members) }
+        requires nested { Nested (2 * (limits.opens + limits.room)) (C.pre self.now.rules.specifiers.conditional) (C.post self.now.rules.specifiers.conditional) (D.pre self.now.rules.declarator) (D.post self.now.rules.declarator) (M.pre self.now.rules.specifiers.members) (M.post self.now.rules.specifiers.members) }
         ensures reads { Says (reads (named limits.room) (direct_start input.old.scope kind bracket) input.old.tokens) result input.new.tokens }
         ensures kept { IfOk result (λ read. input.new.scope ≡ input.old.scope) }
     {
         if let Some(place) = opened_at(bracket) {
             return Ok(Read {
-                value: Declared::absent(self.specifiers.alloc, Some(place))?,
+                value: Declared::absent(self.rules.specifiers.alloc, Some(place))?,
                 depth: 0,
             });
         }
         if begins_name(kind, bracket, input) {
             let name = input.take();
             return Ok(Read {
-                value: Declared::named(self.specifiers.alloc, &name)?,
+                value: Declared::named(self.rules.specifiers.alloc, &name)?,
                 depth: 0,
             });
         }
         if may_lack(kind, bracket) && !input.is(Terminal::OpenParen) {
             return Ok(Read {
-                value: Declared::absent(self.specifiers.alloc, None)?,
+                value: Declared::absent(self.rules.specifiers.alloc, None)?,
                 depth: 0,
             });
         }
@@ -126,7 +126,7 @@ impl<
         left: Read<Declared<'a>>,
         input: &mut Input<'a>,
     ) -> Result<Read<Declared<'a>>, Refusal>
-        requires nested { Nested (2 * (limits.opens + limits.room)) (C.pre self.now.specifiers.conditional) (C.post self.now.specifiers.conditional) (D.pre self.now.declarator) (D.post self.now.declarator) (M.pre self.now.specifiers.members) (M.post self.now.specifiers.members) }
+        requires nested { Nested (2 * (limits.opens + limits.room)) (C.pre self.now.rules.specifiers.conditional) (C.post self.now.rules.specifiers.conditional) (D.pre self.now.rules.declarator) (D.post self.now.rules.declarator) (M.pre self.now.rules.specifiers.members) (M.post self.now.rules.specifiers.members) }
         requires room { left.depth < limits.room }
         ensures reads { Says (joined left.entry.depth (reads (named (limits.room - 1)) (direct_step input.old.scope kind bracket left.entry.value.bracket left.entry.value) input.old.tokens)) result input.new.tokens }
         ensures kept { IfOk result (λ read. input.new.scope ≡ input.old.scope) }
@@ -146,27 +146,27 @@ impl<
     }
 
     /// A parameter list, whose `(` is the next token.
-    #[tactic(auto, using(crate::proofs::Nesting::node_nests, parse_input::proofs::Steps::within))]
+    #[tactic(auto, using(parse_parameters::proofs::Nesting::node_nests, parse_input::proofs::Steps::within))]
     fn params_rest(
         &self,
         limits: Limits,
         left: Read<Declared<'a>>,
         input: &mut Input<'a>,
     ) -> Result<Read<Declared<'a>>, Refusal>
-        requires nested { Nested (2 * (limits.opens + limits.room)) (C.pre self.now.specifiers.conditional) (C.post self.now.specifiers.conditional) (D.pre self.now.declarator) (D.post self.now.declarator) (M.pre self.now.specifiers.members) (M.post self.now.specifiers.members) }
+        requires nested { Nested (2 * (limits.opens + limits.room)) (C.pre self.now.rules.specifiers.conditional) (C.post self.now.rules.specifiers.conditional) (D.pre self.now.rules.declarator) (D.post self.now.rules.declarator) (M.pre self.now.rules.specifiers.members) (M.post self.now.rules.specifiers.members) }
         requires room { left.depth < limits.room }
         ensures reads { Says (joined left.entry.depth (reads (named (limits.room - 1)) (params_parts input.old.scope left.entry.value (place (head input.old.tokens))) (behind input.old.tokens))) result input.new.tokens }
         ensures kept { IfOk result (λ read. input.new.scope ≡ input.old.scope) }
     {
         let opened = input.take();
         let inside = limits.inside();
-        let given = self.params(inside, input)?;
+        let given = self.rules.params(inside, input)?;
         let before = left.depth;
         let inner = given.depth;
         let room = limits.room - 1;
         let depth = before.max(inner);
         let rest = function_rest(
-            self.specifiers.alloc,
+            self.rules.specifiers.alloc,
             room,
             left.value,
             opened.place(),
@@ -188,7 +188,7 @@ impl<
         place: u32,
         input: &mut Input<'a>,
     ) -> Result<Read<Declared<'a>>, Refusal>
-        requires nested { Nested (2 * (limits.opens + limits.room)) (C.pre self.now.specifiers.conditional) (C.post self.now.specifiers.conditional) (D.pre self.now.declarator) (D.post self.now.declarator) (M.pre self.now.specifiers.members) (M.post self.now.specifiers.members) }
+        requires nested { Nested (2 * (limits.opens + limits.room)) (C.pre self.now.rules.specifiers.conditional) (C.post self.now.rules.specifiers.conditional) (D.pre self.now.rules.declarator) (D.post self.now.rules.declarator) (M.pre self.now.rules.specifiers.members) (M.post self.now.rules.specifiers.members) }
         requires room { left.depth < limits.room }
         ensures reads { Says (joined left.entry.depth (reads (named (limits.room - 1)) (array_rest left.entry.value input.old.scope place) input.old.tokens)) result input.new.tokens }
         ensures kept { IfOk result (λ read. input.new.scope ≡ input.old.scope) }
@@ -197,10 +197,10 @@ impl<
             let _closed = input.take();
             return Ok(Read {
                 depth: left.depth + 1,
-                value: Declared::array_of(self.specifiers.alloc, left.value, place, None)?,
+                value: Declared::array_of(self.rules.specifiers.alloc, left.value, place, None)?,
             });
         }
-        let size = self.conditional_inside(limits, input)?;
+        let size = self.rules.conditional_inside(limits, input)?;
         if !input.is(Terminal::CloseBracket) {
             return Err(Refusal::Refused(false));
         }
@@ -208,7 +208,7 @@ impl<
         let depth = left.depth.max(size.depth) + 1;
         let written = Some(size.value);
         Ok(Read {
-            value: Declared::array_of(self.specifiers.alloc, left.value, place, written)?,
+            value: Declared::array_of(self.rules.specifiers.alloc, left.value, place, written)?,
             depth,
         })
     }

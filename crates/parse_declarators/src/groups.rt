@@ -7,7 +7,7 @@ ghost use Rattle.c_grammar.specs.Rules.{Group};
 ghost use Rattle.c_grammar.specs.Specifiers.{attr};
 ghost use Rattle.c_grammar.specs.Declarators.{group_bracket};
 ghost use Rattle.parse_input.specs.Reads.{named, reads, Says};
-ghost use Rattle.parse_declarators.specs.Nested.{Nested};
+ghost use Rattle.parse_parameters.specs.Nested.{Nested};
 ghost use Rattle.parse_declared.specs.Starts.{declarator_parts, list_parts, attribute_parts, group_parts};
 
 use crate::parser::Declarators;
@@ -39,7 +39,7 @@ impl<
         kind: DeclaratorKind,
         input: &mut Input<'a>,
     ) -> Result<Read<Declared<'a>>, Refusal>
-        requires nested { Nested (2 * (limits.opens + limits.room)) (C.pre self.now.specifiers.conditional) (C.post self.now.specifiers.conditional) (D.pre self.now.declarator) (D.post self.now.declarator) (M.pre self.now.specifiers.members) (M.post self.now.specifiers.members) }
+        requires nested { Nested (2 * (limits.opens + limits.room)) (C.pre self.now.rules.specifiers.conditional) (C.post self.now.rules.specifiers.conditional) (D.pre self.now.rules.declarator) (D.post self.now.rules.declarator) (M.pre self.now.rules.specifiers.members) (M.post self.now.rules.specifiers.members) }
         ensures reads { Says (named limits.room (Group input.old.scope kind) input.old.tokens) result input.new.tokens }
         ensures kept { IfOk result (λ read. input.new.scope ≡ input.old.scope) }
     {
@@ -66,7 +66,7 @@ impl<
         place: u32,
         input: &mut Input<'a>,
     ) -> Result<Read<Declared<'a>>, Refusal>
-        requires nested { Nested (2 * (limits.opens + limits.room)) (C.pre self.now.specifiers.conditional) (C.post self.now.specifiers.conditional) (D.pre self.now.declarator) (D.post self.now.declarator) (M.pre self.now.specifiers.members) (M.post self.now.specifiers.members) }
+        requires nested { Nested (2 * (limits.opens + limits.room)) (C.pre self.now.rules.specifiers.conditional) (C.post self.now.rules.specifiers.conditional) (D.pre self.now.rules.declarator) (D.post self.now.rules.declarator) (M.pre self.now.rules.specifiers.members) (M.post self.now.rules.specifiers.members) }
         requires room { 0 < limits.room }
         ensures reads { Says (reads (named (limits.room - 1)) (group_parts input.old.scope kind place) input.old.tokens) result input.new.tokens }
         ensures kept { IfOk result (λ read. input.new.scope ≡ input.old.scope) }
@@ -82,16 +82,16 @@ impl<
             return self.list_rest(
                 limits,
                 SpecifierContext::Barred,
-                Items::new(self.specifiers.alloc),
+                Items::new(self.rules.specifiers.alloc),
                 place,
                 input,
             );
         }
         if input.is(Terminal::CloseParen) {
-            let nothing = Declared::absent(self.specifiers.alloc, None)?;
-            let none = ParameterList::new(self.specifiers.alloc);
+            let nothing = Declared::absent(self.rules.specifiers.alloc, None)?;
+            let none = ParameterList::new(self.rules.specifiers.alloc);
             return function_rest(
-                self.specifiers.alloc,
+                self.rules.specifiers.alloc,
                 limits.room - 1,
                 nothing,
                 place,
@@ -112,7 +112,7 @@ impl<
         bracket: u32,
         input: &mut Input<'a>,
     ) -> Result<Read<Declared<'a>>, Refusal>
-        requires nested { Nested (2 * (limits.opens + limits.room)) (C.pre self.now.specifiers.conditional) (C.post self.now.specifiers.conditional) (D.pre self.now.declarator) (D.post self.now.declarator) (M.pre self.now.specifiers.members) (M.post self.now.specifiers.members) }
+        requires nested { Nested (2 * (limits.opens + limits.room)) (C.pre self.now.rules.specifiers.conditional) (C.post self.now.rules.specifiers.conditional) (D.pre self.now.rules.declarator) (D.post self.now.rules.declarator) (M.pre self.now.rules.specifiers.members) (M.post self.now.rules.specifiers.members) }
         requires room { 0 < limits.room }
         ensures reads { Says (reads (named (limits.room - 1)) (group_bracket input.old.scope kind place bracket) input.old.tokens) result input.new.tokens }
         ensures kept { IfOk result (λ read. input.new.scope ≡ input.old.scope) }
@@ -132,13 +132,13 @@ impl<
         bracket: u32,
         input: &mut Input<'a>,
     ) -> Result<Read<Declared<'a>>, Refusal>
-        requires nested { Nested (2 * (limits.opens + limits.room)) (C.pre self.now.specifiers.conditional) (C.post self.now.specifiers.conditional) (D.pre self.now.declarator) (D.post self.now.declarator) (M.pre self.now.specifiers.members) (M.post self.now.specifiers.members) }
+        requires nested { Nested (2 * (limits.opens + limits.room)) (C.pre self.now.rules.specifiers.conditional) (C.post self.now.rules.specifiers.conditional) (D.pre self.now.rules.declarator) (D.post self.now.rules.declarator) (M.pre self.now.rules.specifiers.members) (M.post self.now.rules.specifiers.members) }
         requires room { 0 < limits.room }
         ensures reads { Says (reads (named (limits.room - 1)) (attribute_parts input.old.scope place bracket) input.old.tokens) result input.new.tokens }
         ensures kept { IfOk result (λ read. input.new.scope ≡ input.old.scope) }
     {
-        let words = clang_words(self.specifiers.alloc, limits.room - 1, input)?;
-        let before = bracketed(self.specifiers.alloc, bracket, words.value)?;
+        let words = clang_words(self.rules.specifiers.alloc, limits.room - 1, input)?;
+        let before = bracketed(self.rules.specifiers.alloc, bracket, words.value)?;
         let rest = self.list_rest(limits, SpecifierContext::Type, before, place, input)?;
         let depth = words.depth.max(rest.depth);
         Ok(Read {
@@ -148,7 +148,7 @@ impl<
     }
 
     /// Parameters of a function of which nothing else is declared.
-    #[tactic(auto, using(crate::proofs::Nesting::node_nests))]
+    #[tactic(auto, using(parse_parameters::proofs::Nesting::node_nests))]
     fn list_rest(
         &self,
         limits: Limits,
@@ -157,17 +157,19 @@ impl<
         place: u32,
         input: &mut Input<'a>,
     ) -> Result<Read<Declared<'a>>, Refusal>
-        requires nested { Nested (2 * (limits.opens + limits.room)) (C.pre self.now.specifiers.conditional) (C.post self.now.specifiers.conditional) (D.pre self.now.declarator) (D.post self.now.declarator) (M.pre self.now.specifiers.members) (M.post self.now.specifiers.members) }
+        requires nested { Nested (2 * (limits.opens + limits.room)) (C.pre self.now.rules.specifiers.conditional) (C.post self.now.rules.specifiers.conditional) (D.pre self.now.rules.declarator) (D.post self.now.rules.declarator) (M.pre self.now.rules.specifiers.members) (M.post self.now.rules.specifiers.members) }
         requires room { 0 < limits.room }
         ensures reads { Says (reads (named (limits.room - 1)) (list_parts context input.old.scope before place) input.old.tokens) result input.new.tokens }
         ensures kept { IfOk result (λ read. input.new.scope ≡ input.old.scope) }
     {
-        let given = self.param_list(limits.inside(), context, before, input)?;
+        let given = self
+            .rules
+            .param_list(limits.inside(), context, before, input)?;
         let inner = given.depth;
-        let nothing = Declared::absent(self.specifiers.alloc, None)?;
+        let nothing = Declared::absent(self.rules.specifiers.alloc, None)?;
         let room = limits.room - 1;
         let rest = function_rest(
-            self.specifiers.alloc,
+            self.rules.specifiers.alloc,
             room,
             nothing,
             place,
@@ -190,19 +192,19 @@ impl<
         place: u32,
         input: &mut Input<'a>,
     ) -> Result<Read<Declared<'a>>, Refusal>
-        requires nested { Nested (2 * (limits.opens + limits.room)) (C.pre self.now.specifiers.conditional) (C.post self.now.specifiers.conditional) (D.pre self.now.declarator) (D.post self.now.declarator) (M.pre self.now.specifiers.members) (M.post self.now.specifiers.members) }
+        requires nested { Nested (2 * (limits.opens + limits.room)) (C.pre self.now.rules.specifiers.conditional) (C.post self.now.rules.specifiers.conditional) (D.pre self.now.rules.declarator) (D.post self.now.rules.declarator) (M.pre self.now.rules.specifiers.members) (M.post self.now.rules.specifiers.members) }
         requires room { 0 < limits.room }
         ensures reads { Says (reads (named (limits.room - 1)) (declarator_parts input.old.scope kind bracket place) input.old.tokens) result input.new.tokens }
         ensures kept { IfOk result (λ read. input.new.scope ≡ input.old.scope) }
     {
-        let inner = self.declarator_inside(limits, kind, bracket, input)?;
+        let inner = self.rules.declarator_inside(limits, kind, bracket, input)?;
         if !input.is(Terminal::CloseParen) {
             return Err(Refusal::Refused(false));
         }
         let _closed = input.take();
         let depth = inner.depth;
         Ok(Read {
-            value: Declared::grouped(self.specifiers.alloc, place, inner.value)?,
+            value: Declared::grouped(self.rules.specifiers.alloc, place, inner.value)?,
             depth,
         })
     }

@@ -1,10 +1,8 @@
-//! Declarators, parameters, members and type names of C (C17 6.7), read by descent.
+//! Declarators of C (C17 6.7.6), and abstract ones (6.7.7), read by descent.
 #![tactic(auto)]
 
 mod direct;
 mod groups;
-mod members;
-mod params;
 mod parser;
 mod pointers;
 

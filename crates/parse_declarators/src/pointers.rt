@@ -3,7 +3,7 @@
 ghost use Rattle.std.specs.Prelude.{◌≡◌, ◌+◌, ◌*◌, IfOk};
 ghost use Rattle.c_grammar.specs.Rules.{Pointer};
 ghost use Rattle.parse_input.specs.Reads.{named, Says};
-ghost use Rattle.parse_declarators.specs.Nested.{Nested};
+ghost use Rattle.parse_parameters.specs.Nested.{Nested};
 
 use crate::parser::Declarators;
 use c_grammar::{Bracket, DeclaratorKind, Terminal};
@@ -33,7 +33,7 @@ impl<
         kind: DeclaratorKind,
         input: &mut Input<'a>,
     ) -> Result<Read<Declared<'a>>, Refusal>
-        requires nested { Nested (2 * (limits.opens + limits.room)) (C.pre self.now.specifiers.conditional) (C.post self.now.specifiers.conditional) (D.pre self.now.declarator) (D.post self.now.declarator) (M.pre self.now.specifiers.members) (M.post self.now.specifiers.members) }
+        requires nested { Nested (2 * (limits.opens + limits.room)) (C.pre self.now.rules.specifiers.conditional) (C.post self.now.rules.specifiers.conditional) (D.pre self.now.rules.declarator) (D.post self.now.rules.declarator) (M.pre self.now.rules.specifiers.members) (M.post self.now.rules.specifiers.members) }
         ensures reads { Says (named limits.room (Pointer input.old.scope kind) input.old.tokens) result input.new.tokens }
         ensures kept { IfOk result (λ read. input.new.scope ≡ input.old.scope) }
     {
@@ -44,12 +44,14 @@ impl<
             return Err(Refusal::Refused(false));
         }
         let star = input.take();
-        let qualifiers = qualifiers(self.specifiers.alloc, limits.room - 1, input)?;
-        let target = self.declarator_inside(limits, kind, Bracket::Unknown, input)?;
+        let qualifiers = qualifiers(self.rules.specifiers.alloc, limits.room - 1, input)?;
+        let target = self
+            .rules
+            .declarator_inside(limits, kind, Bracket::Unknown, input)?;
         Ok(Read {
             depth: qualifiers.depth.max(target.depth) + 1,
             value: Declared::pointer_to(
-                self.specifiers.alloc,
+                self.rules.specifiers.alloc,
                 star.place(),
                 qualifiers.value,
                 target.value,

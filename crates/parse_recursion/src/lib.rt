@@ -1,7 +1,7 @@
 //! Expressions, specifiers and declarators of C, which hold one another.
 //!
-//! Their rules take what they hold as function values (crates `parse_expressions`, `parse_specifiers` and
-//! `parse_declarators`). Here each of the five that lead back to one another is tied to the others.
+//! Their rules take what they hold as function values (crates `parse_expressions`, `parse_specifiers`,
+//! `parse_parameters` and `parse_declarators`). Here each of the five that lead back to one another is tied to the others.
 #![tactic(auto)]
 
 ghost use Rattle.std.specs.Prelude.{◌≡◌, IfOk};
@@ -17,6 +17,7 @@ use parse_declared::Declared;
 use parse_expressions::Expressions;
 use parse_input::{Input, Limits, Read, Refusal};
 use parse_operands::{Operands, Wanted};
+use parse_parameters::DeclaratorRules;
 use parse_specifiers::{SpecifierRules, Specifiers};
 use sqlite_items::{Boxed, Items};
 use std::alloc::Global;
@@ -63,7 +64,7 @@ fn type_name(
     ensures reads { Says (named limits.room (NamedType input.old.scope) input.old.tokens) result input.new.tokens }
     ensures kept { IfOk result (λ read. input.new.scope ≡ input.old.scope) }
 {
-    Declarators {
+    DeclaratorRules {
         specifiers: SpecifierRules {
             alloc,
             conditional,
@@ -87,12 +88,14 @@ pub fn declarator<'a>(
     ensures kept { IfOk result (λ read. input.new.scope ≡ input.old.scope) }
 {
     Declarators {
-        specifiers: SpecifierRules {
-            alloc,
-            conditional,
-            members,
+        rules: DeclaratorRules {
+            specifiers: SpecifierRules {
+                alloc,
+                conditional,
+                members,
+            },
+            declarator,
         },
-        declarator,
     }
     .declarator(limits, kind, bracket, input)
 }
@@ -106,7 +109,7 @@ fn members(
     ensures reads { Says (named limits.room (Members input.old.scope) input.old.tokens) result input.new.tokens }
     ensures kept { IfOk result (λ read. input.new.scope ≡ input.old.scope) }
 {
-    Declarators {
+    DeclaratorRules {
         specifiers: SpecifierRules {
             alloc,
             conditional,

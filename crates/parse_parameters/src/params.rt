@@ -4,9 +4,9 @@ ghost use Rattle.std.specs.Prelude.{◌≡◌, ◌+◌, ◌*◌, IfOk};
 ghost use Rattle.c_grammar.specs.Rules.{Params, ParamList, TypeName as NamedType};
 ghost use Rattle.parse_input.specs.Reads.{named, reads, Says};
 ghost use Rattle.parse_declared.specs.Parameters.{one_param};
-ghost use Rattle.parse_declarators.specs.Nested.{Nested};
+ghost use Rattle.parse_parameters.specs.Nested.{Nested};
 
-use crate::parser::Declarators;
+use crate::rules::DeclaratorRules;
 use c_grammar::{Bracket, DeclaratorKind, SpecifierContext, Terminal};
 use c_tree::{Expr, Member, Spec, TypeName};
 use parse_declared::{
@@ -27,7 +27,7 @@ impl<
         &mut Input<'a>,
     ) -> Result<Read<Declared<'a>>, Refusal>,
     M: Fn(Global, Limits, &mut Input<'a>) -> Result<Read<Items<Member>>, Refusal>,
-> Declarators<C, D, M> {
+> DeclaratorRules<C, D, M> {
     /// A type name.
     #[tactic(auto, using(crate::proofs::Listing::a_type_name))]
     pub fn type_name(

@@ -4,7 +4,7 @@ use Rattle.c_grammar.specs.Rules.{ParamList}
 use Rattle.parse_input.specs.Input.{cut_scope}
 use Rattle.parse_input.specs.Reads.{named}
 use Rattle.parse_declared.specs.Parameters.{behind_params}
-use Rattle.parse_declarators.proofs.parser.Declarators.param_list.Given as goal
+use Rattle.parse_parameters.proofs.rules.DeclaratorRules.param_list.Given as goal
 
 abbrev pub invariant-each : goal.invariant-each
 invariant-each g l =

@@ -2,7 +2,7 @@ use Rattle.std.proofs.Common.{◌≡◌, length}
 use Rattle.grammar.specs.Parser.{deepen}
 use Rattle.c_grammar.specs.Rules.{MemberDeclarators}
 use Rattle.parse_input.specs.Reads.{named, behind_items}
-use Rattle.parse_declarators.proofs.parser.Declarators.member_declarators.Given as goal
+use Rattle.parse_parameters.proofs.rules.DeclaratorRules.member_declarators.Given as goal
 
 abbrev pub invariant-each : goal.invariant-each
 invariant-each g l =

@@ -11,7 +11,7 @@ use Rattle.parse_input.specs.declared.read.Read.{Read}
 use Rattle.parse_input.specs.declared.read.Refusal.{Refusal}
 use Rattle.c_grammar.specs.declared.state.DeclaratorKind.{DeclaratorKind}
 use Rattle.c_grammar.specs.declared.state.Bracket.{Bracket}
-use Rattle.parse_declarators.specs.Nested.{Nested}
+use Rattle.parse_parameters.specs.Nested.{Nested}
 
 module _ (cp : Global → Limits → MutBor Input → Type 0) (cq : Global → Limits → MutBor Input → Result (Read Expr) Refusal → MutBor Input → Type 0)
     (dp : Global → Limits → DeclaratorKind → Bracket → MutBor Input → Type 0)

@@ -1,5 +1,5 @@
-use Rattle.parse_declarators.proofs.Lines.{line_falls}
-use Rattle.parse_declarators.proofs.parser.Declarators.members.Goals as goal
+use Rattle.parse_parameters.proofs.Lines.{line_falls}
+use Rattle.parse_parameters.proofs.rules.DeclaratorRules.members.Goals as goal
 
 pub each-smaller : goal.each-smaller
 each-smaller g c =

@@ -3,10 +3,10 @@
 ghost use Rattle.std.specs.Prelude.{◌≡◌, ◌+◌, ◌*◌, IfOk};
 ghost use Rattle.c_grammar.specs.Rules.{Members, MemberDeclarators};
 ghost use Rattle.parse_input.specs.Reads.{named, reads, Says};
-ghost use Rattle.parse_declarators.specs.Nested.{Nested};
-ghost use Rattle.parse_declarators.specs.Parts.{member_line};
+ghost use Rattle.parse_parameters.specs.Nested.{Nested};
+ghost use Rattle.parse_parameters.specs.Parts.{member_line};
 
-use crate::parser::Declarators;
+use crate::rules::DeclaratorRules;
 use c_grammar::{Bracket, DeclaratorKind, SpecifierContext, Terminal};
 use c_tree::{Declarator, Expr, Member};
 use parse_declared::{Declared, tree_of};
@@ -25,7 +25,7 @@ impl<
         &mut Input<'a>,
     ) -> Result<Read<Declared<'a>>, Refusal>,
     M: Fn(Global, Limits, &mut Input<'a>) -> Result<Read<Items<Member>>, Refusal>,
-> Declarators<C, D, M> {
+> DeclaratorRules<C, D, M> {
     /// The declarators of a line of members, up to its `;`.
     #[tactic(auto, using(crate::proofs::Lines::declarators, crate::proofs::Lines::declarators_go, crate::proofs::Lines::declarators_end, parse_input::proofs::Then::items_begin))]
     fn member_declarators(

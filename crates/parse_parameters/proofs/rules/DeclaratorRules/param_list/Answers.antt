@@ -5,8 +5,8 @@ use Rattle.c_grammar.specs.Lexemes.{is}
 use Rattle.c_grammar.specs.Rules.{Scope}
 use Rattle.c_grammar.specs.Declarators.{hide}
 use Rattle.parse_input.specs.Input.{Input, sees, behind}
-use Rattle.parse_declarators.proofs.Listing.{comma_less, goes_on, ends_so, cut_on, mark_on}
-use Rattle.parse_declarators.proofs.parser.Declarators.param_list.Goals as goal
+use Rattle.parse_parameters.proofs.Listing.{comma_less, goes_on, ends_so, cut_on, mark_on}
+use Rattle.parse_parameters.proofs.rules.DeclaratorRules.param_list.Goals as goal
 
 pub each-smaller : goal.each-smaller
 each-smaller g c =

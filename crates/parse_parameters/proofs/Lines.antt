@@ -16,7 +16,7 @@ use Rattle.c_grammar.specs.Specifiers as grammar
 use Rattle.parse_input.specs.Input.{behind, sees}
 use Rattle.parse_input.specs.Reads.{named, reads, behind_items}
 use Rattle.parse_input.proofs.Steps.{plain_rule}
-use Rattle.parse_declarators.specs.Parts.{member_line}
+use Rattle.parse_parameters.specs.Parts.{member_line}
 use Rattle.parse_input.proofs.Then.{reads_followed, call_falls, item_goes, item_ends}
 
 -- what stands behind one declarator, and behind one line

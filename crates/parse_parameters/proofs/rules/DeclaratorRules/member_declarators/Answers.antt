@@ -4,7 +4,7 @@ use Rattle.c_grammar.specs.declared.state.DeclaratorKind.TheVariants.{Member as 
 use Rattle.c_grammar.specs.declared.state.Bracket.TheVariants.{Unknown}
 use Rattle.c_grammar.specs.Rules.{Declarator}
 use Rattle.parse_input.proofs.Then.{falls_rule}
-use Rattle.parse_declarators.proofs.parser.Declarators.member_declarators.Goals as goal
+use Rattle.parse_parameters.proofs.rules.DeclaratorRules.member_declarators.Goals as goal
 
 pub each-smaller : goal.each-smaller
 each-smaller g c =
