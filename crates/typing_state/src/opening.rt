@@ -25,7 +25,7 @@ impl<'a> Typing<'a> {
         returns: Boxed<CType>,
     ) -> Typing<'a>
         requires { returns ≡ Void }
-        ensures { result ≡ unread source.now marks.now whole.now names scopes tags }
+        ensures { result ≡ unread source.now marks.now whole.now names.entry scopes tags }
     {
         Typing {
             source,
