@@ -1,3 +1,4 @@
 pub mod Unpacking
 pub mod TriedMachine
 pub mod Serving
+pub mod Unanswered

@@ -3,3 +3,4 @@ pub mod Memory
 pub mod Words
 pub mod Stages
 pub mod Machine
+pub mod Laws

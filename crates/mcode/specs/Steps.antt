@@ -1,7 +1,7 @@
 -- What all machines have in common: a state does one step, and an event is answered by a word.
 use Rattle.std.specs.Prelude.{ℕ, zero, suc, Bool, true, false, List, [], ◌∷◌}
 use Rattle.mcode.specs.declared.events.Ask.{Ask}
-use Rattle.mcode.specs.declared.events.Ask.TheVariants.{Over}
+use Rattle.mcode.specs.declared.events.Ask.TheVariants.{Load, Exchange, FetchAdd, FetchSub, Create, Over}
 use Rattle.mcode.specs.declared.events.Finish.{Finish}
 use Rattle.mcode.specs.declared.events.Finish.TheVariants.{Halted}
 use Rattle.mcode.specs.declared.events.Turned.{Turned}
@@ -12,6 +12,20 @@ pub data Step (S : Type 0) : Type 0 where
   Quiet : S → Step S
   Makes : Ask → (ℕ → S) → (ℕ → Turned) → Step S
   Ends : Finish → Step S
+
+-- an event, and no finish
+abbrev pub is_event : Ask → Bool
+is_event (Over finish) = false
+is_event ask = true
+
+-- whether a word answers an event
+abbrev pub is_answered : Ask → Bool
+is_answered (Load at) = true
+is_answered (Exchange at old new) = true
+is_answered (FetchAdd at n) = true
+is_answered (FetchSub at n) = true
+is_answered (Create function argument) = true
+is_answered _ = false
 
 -- an event that is no try, and what follows its answer
 abbrev pub asks : {S : Type 0} → Ask → (ℕ → S) → Step S

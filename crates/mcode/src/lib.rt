@@ -4,11 +4,13 @@
 
 mod code;
 mod events;
+mod laws;
 mod stages;
 mod thread;
 
 pub use arithmetic::TrapKind;
 pub use code::{Entry, Instruction, Served};
 pub use events::{Ask, Finish, Turned};
+pub use laws::law_unanswered;
 pub use stages::Stage;
 pub use thread::{Caller, Mode};

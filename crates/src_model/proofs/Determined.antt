@@ -1,11 +1,11 @@
--- The source thread is deterministic.
+-- The source thread is deterministic, and ignores other words than answers.
 use Rattle.std.proofs.Common.{◌≡◌, refl, sym, ◌∙◌, ℕ, List, [], ◌∷◌}
 use Rattle.core_unit.specs.declared.tables.UnitParts.{UnitParts}
 use Rattle.mcode.specs.declared.events.Ask.{Ask}
 use Rattle.src_model.specs.Laws.{AreEvents, IsDeterministic}
 use Rattle.src_model.specs.Source.{after}
 use Rattle.src_model.specs.Tasks.{State}
-use Rattle.src_model.proofs.Quiet.{settles_loud}
+use Rattle.src_model.proofs.Quiet.{settles_loud, ignored}
 use Rattle.src_model.proofs.Table.{next_low, comes_low}
 
 same_events : (u : UnitParts) (s : State) (answers : List ℕ) (events others : List Ask) → AreEvents u s events answers → AreEvents u s others answers → events ≡ others
@@ -23,5 +23,7 @@ pub is_deterministic : (u : UnitParts) → IsDeterministic u
 is_deterministic u = record {
   decided = settles_loud u;
   in_table = λ s comes. next_low u s (comes_low u s comes);
+  ignored_states = λ s word other e. (ignored u s word other e).0;
+  ignored_tries = λ s word other e. (ignored u s word other e).1;
   same = same_events u;
 }

@@ -1,8 +1,8 @@
 -- Compiled code does what the source thread does along each trace, also where a report cuts it short.
-use Rattle.std.proofs.Common.{◌≡◌, refl, sym, ap, ◌∙◌, ℕ, Bool, true, false, List, [], ◌∷◌, if◌then◌else◌}
+use Rattle.std.proofs.Common.{◌≡◌, refl, sym, ap, ◌∙◌, ℕ, Bool, true, false, not, ◌&&◌, List, [], ◌∷◌, if◌then◌else◌}
 use Rattle.mcode.specs.Machine.{Program, machine_next, machine_after, machine_turned, machine_cut}
-use Rattle.src_model.specs.Follows.{Move, Answers, driven, Behaves, cut_move, moves_of, machine_started, machine_after_trace}
-use Rattle.src_model.specs.Runs.{Setting, Start, moved, started, is_cut, state_after, next_after}
+use Rattle.src_model.specs.Follows.{Move, Answers, driven, Behaves, cut_move, moves_of, machine_started, machine_after_trace, machine_at_end}
+use Rattle.src_model.specs.Runs.{Setting, Start, Thread, moved, moved_to, started, is_cut, state_after, next_after}
 use Rattle.src_model.specs.Source.{next, after, turned, cut}
 use Rattle.src_model.specs.declared.runs.Made.{Made}
 
@@ -31,3 +31,21 @@ tried_along w c behaves begin trace word =
     ap (λ t. machine_turned c t word) (moved_is_driven w (machine_after c) machine_cut (machine_started begin) trace)
     ∙ behaves.tries begin (moves_of w trace) word
     ∙ sym (ap (λ s. turned w.unit s word) (moved_is_driven w (after w.unit) cut (started begin) trace))
+
+-- At its end too: the code's thread is at the event or the finish at which the source thread is.
+abbrev moves_to : Setting → (refused : Bool) → List Made → List Move
+moves_to w refused [] = []
+moves_to w refused (made ∷ before) = cut_move (is_cut w before made.ask && not refused) (Answers made.word ∷ moves_of w before)
+
+moved_to_is_driven : {S : Type 0} (w : Setting) (go : S → ℕ → S) (halts : S → S) (s : S) (refused : Bool) (trace : List Made) → moved_to w go halts s refused trace ≡ driven go halts s (moves_to w refused trace)
+moved_to_is_driven w go halts s refused [] = refl
+moved_to_is_driven w go halts s refused (made ∷ before) =
+    ap (λ t. if is_cut w before made.ask && not refused then halts (go t made.word) else go t made.word) (moved_is_driven w go halts s before)
+    ∙ cut_or_not go halts s (is_cut w before made.ask && not refused) made.word (moves_of w before)
+
+pub next_at_end : (w : Setting) (c : Program) → Behaves w.unit c → (t : Thread) →
+    machine_next c (machine_at_end w c t) ≡ next w.unit (moved_to w (after w.unit) cut (started t.begin) t.refused t.trace)
+next_at_end w c behaves t =
+    ap (machine_next c) (moved_to_is_driven w (machine_after c) machine_cut (machine_started t.begin) t.refused t.trace)
+    ∙ behaves.events t.begin (moves_to w t.refused t.trace)
+    ∙ sym (ap (next w.unit) (moved_to_is_driven w (after w.unit) cut (started t.begin) t.refused t.trace))

@@ -1,5 +1,5 @@
 -- In a scheduled run the word events of all threads have one merge, which is a legal history of the words of memory.
-use Rattle.std.proofs.Common.{◌≡◌, ◌≢◌, refl, sym, ap, ◌∙◌, subst, ℕ, zero, suc, ◌+◌, ◌<◌, ◌≤◌, Bool, true, false, List, [], ◌∷◌, ◌++◌, length, set, Option, Some, None, Contains, arith, nat_eq, nat_lt, if◌then◌else◌, slice_get, slice_index, append-nil, append_assoc, ⊎_elim}
+use Rattle.std.proofs.Common.{◌≡◌, ◌≢◌, refl, sym, ap, ◌∙◌, subst, ℕ, zero, suc, ◌+◌, ◌<◌, ◌≤◌, Bool, true, false, not, ◌&&◌, List, [], ◌∷◌, ◌++◌, length, set, Option, Some, None, Contains, arith, nat_eq, nat_lt, if◌then◌else◌, slice_get, slice_index, append-nil, append_assoc, ⊎_elim}
 use Rattle.std.proofs.lemmas.Bool.Decides.{nat_tests}
 use Rattle.std.proofs.lemmas.List.{length-append, length-set}
 use Rattle.std.proofs.lemmas.List.Elements.{Contains-push_cases, Contains-append_cases}
@@ -10,12 +10,11 @@ use Rattle.mcode.specs.declared.events.Ask.{Ask}
 use Rattle.mcode.specs.declared.events.Ask.TheVariants as ask
 use Rattle.mcode.specs.declared.events.Ask.TheVariants.{Create}
 use Rattle.src_model.specs.Laws.{IsInTable, table_words, Comes, begins, goes_on, halts}
-use Rattle.src_model.specs.Runs.{Setting, entry_of, argument_words, is_cut, split_of}
-use Rattle.src_model.specs.Scheduled.{Live, as_list, Running, answer, children, is_refused, stepped, makes_next, turn_of, turn, turns, numbers, is_over, round_unless_over, rounds, called, first_thread, opened, scheduled}
+use Rattle.src_model.specs.Runs.{Setting, argument_words, is_cut, split_of}
+use Rattle.src_model.specs.Scheduled.{Live, as_list, Running, answer, children, is_refused, stepped, makes_asked, called, first_thread}
 use Rattle.src_model.specs.Source.{next, after, cut}
 use Rattle.src_model.specs.Tasks.{State}
 use Rattle.src_model.specs.Traces.{word_event, words_of, Creation, creation, creations}
-use Rattle.src_model.specs.declared.runs.End.{End}
 use Rattle.src_model.specs.declared.runs.Made.{Made}
 use Rattle.src_model.proofs.Table.{next_low, comes_low}
 use Rattle.word_mem.proofs.Parts.{events-append, part-push, part-push_other, part-longer, part-none, Follows-none, Follows-push}
@@ -126,14 +125,14 @@ other_placed w count more n k m es t other up p = record {
 }
 
 -- A thread that an event starts has the next number.
-abbrev IsBorn : Ask → (word count : ℕ) → Type 0
+abbrev pub IsBorn : Ask → (word count : ℕ) → Type 0
 IsBorn (Create function argument) word count = nat_eq word 0 ≡ false → (word ≡ count) × (word < 64)
 IsBorn _ word count = Unit {0}
 
 pub none_in : {X : Type 0} (x : X) → Contains [] x → ⊥
 none_in x h = let low = h.1 in absurd (omega (arith, low))
 
-sole : {X : Type 0} (y x : X) → Contains (y ∷ []) x → y ≡ x
+pub sole : {X : Type 0} (y x : X) → Contains (y ∷ []) x → y ≡ x
 sole y x h = ⊎_elim (λ n. absurd (none_in x n)) (λ e. e) (Contains-push_cases [] y x h)
 
 born_ordered : (m : List Entry) (count more n : ℕ) (trace : List Made) (function argument word : ℕ) (b : Bool) → nat_eq word 0 ≡ b →
@@ -177,7 +176,7 @@ own_placed : (w : Setting) (m : List Entry) (count n : ℕ) (t : Live) (event : 
     IsPlaced w (grown n m (word_event event word)) (counted count event word) n (stepped w t event word refused)
 own_placed w m count n t event word refused only born p = record {
   number = p.number;
-  comes = comes_on w.unit t.state word (is_cut w t.trace event) p.comes;
+  comes = comes_on w.unit t.state word (is_cut w t.trace event && not refused) p.comes;
   events = grown_own n m (word_event event word) ∙ ap (λ (l : List WordEvent). l ++ word_event event word) p.events;
   order = λ c h. ⊎_elim
       (new_ordered m count n t.trace event word only p.events born c)
@@ -263,7 +262,7 @@ created : (count : ℕ) (b : Bool) → nat_lt count 64 ≡ b → 0 < count → n
 created count true e some h = (refl, grind (arith, nat_tests))
 created count false e some h = let clash : ⊥ = cc in absurd clash
 
-born_next : (r : Running (List ℕ)) (event : Ask) → 0 < length r.threads → IsBorn event (answer as_list r event) (length r.threads)
+pub born_next : (r : Running (List ℕ)) (event : Ask) → 0 < length r.threads → IsBorn event (answer as_list r event) (length r.threads)
 born_next r (Create function argument) some = created (length r.threads) (nat_lt (length r.threads) 64) refl some
 born_next r _ some = tt
 
@@ -275,13 +274,12 @@ few_if : (function argument count : ℕ) (b : Bool) → nat_lt count 64 ≡ b �
 few_if function argument count true e few = few_of function argument count count (grind (arith, nat_tests))
 few_if function argument count false e few = omega (arith, few)
 
-few_children : (r : Running (List ℕ)) (event : Ask) → length r.threads ≤ 64 → length r.threads + length (children event (answer as_list r event)) ≤ 64
+pub few_children : (r : Running (List ℕ)) (event : Ask) → length r.threads ≤ 64 → length r.threads + length (children event (answer as_list r event)) ≤ 64
 few_children r (Create function argument) few = few_if function argument (length r.threads) (nat_lt (length r.threads) 64) refl few
 few_children r _ few = omega (arith, few)
 
-next_kept : (w : Setting) → length (opening w.unit) ≡ table_words → (n : ℕ) (t : Live) (end : Option End) (r : Running (List ℕ)) → slice_get r.threads n ≡ Some t → HasMerge w r → HasMerge w (makes_next as_list w n t end r)
-next_kept w long n t (Some end) r there kept = kept
-next_kept w long n t None r there kept =
+pub next_kept : (w : Setting) → length (opening w.unit) ≡ table_words → (n : ℕ) (t : Live) (r : Running (List ℕ)) → slice_get r.threads n ≡ Some t → HasMerge w r → HasMerge w (makes_asked as_list w n t (next w.unit t.state) r)
+next_kept w long n t r there kept =
     let m : List Entry = kept.0 in
     let k : IsKept w r m = kept.1 in
     let event : Ask = next w.unit t.state in
@@ -294,14 +292,14 @@ next_kept w long n t None r there kept =
     one_longer (opening w.unit) (events m) r event k.legal k.words wide (next_low w.unit t.state (comes_low w.unit t.state p.comes)) in
     let same : events (grown n m (word_event event word)) ≡ events m ++ word_event event word = grown_events n m (word_event event word) in
     let born : IsBorn event word count = born_next r event (omega (arith, low)) in
-    let t' : Live = stepped w t event word (is_refused w r.asked t.trace event) in
+    let t' : Live = stepped w t event word (is_refused as_list w r.asked t.trace event) in
     let kept_length : length (set r.threads n t') ≡ count = length-set r.threads n t' in
     let all_length : length (set r.threads n t' ++ children event word) ≡ counted count event word =
     length-append (set r.threads n t') (children event word) ∙ ap (λ l. l + length (children event word)) kept_length in
     let threads : AllPlaced w (grown n m (word_event event word)) (counted count event word) 0 (set r.threads n t' ++ children event word) =
     placed_then w (grown n m (word_event event word)) (counted count event word) 0 count (set r.threads n t') (children event word) (omega (arith, kept_length))
     (set_placed w count (counted count event word) n m (word_event event word) t' 0 r.threads n (omega arith) (omega arith) k.placed
-    (own_placed w m count n t event word (is_refused w r.asked t.trace event) k.only born p))
+    (own_placed w m count n t event word (is_refused as_list w r.asked t.trace event) k.only born p))
     (child_placed w m count n event word k.only born) in (
       grown n m (word_event event word),
       record {
@@ -313,23 +311,7 @@ next_kept w long n t None r there kept =
       },
     )
 
-turn_kept : (w : Setting) → length (opening w.unit) ≡ table_words → (n : ℕ) (found : Option Live) (r : Running (List ℕ)) → slice_get r.threads n ≡ found → HasMerge w r → HasMerge w (turn_of as_list w n found r)
-turn_kept w long n None r there kept = kept
-turn_kept w long n (Some t) r there kept = next_kept w long n t t.end r there kept
-
-turns_kept : (w : Setting) → length (opening w.unit) ≡ table_words → (ns : List ℕ) (r : Running (List ℕ)) → HasMerge w r → HasMerge w (turns as_list w ns r)
-turns_kept w long [] r kept = kept
-turns_kept w long (n ∷ ns) r kept = turns_kept w long ns (turn as_list w n r) (turn_kept w long n (slice_get r.threads n) r refl kept)
-
-round_kept : (w : Setting) → length (opening w.unit) ≡ table_words → (go : Running (List ℕ) → Running (List ℕ)) → ((r : Running (List ℕ)) → HasMerge w r → HasMerge w (go r)) → (b : Bool) (r : Running (List ℕ)) → HasMerge w r → HasMerge w (round_unless_over as_list w go b r)
-round_kept w long go on true r kept = kept
-round_kept w long go on false r kept = on (turns as_list w (numbers 0 64) r) (turns_kept w long (numbers 0 64) r kept)
-
-rounds_kept : (w : Setting) → length (opening w.unit) ≡ table_words → (n : ℕ) (r : Running (List ℕ)) → HasMerge w r → HasMerge w (rounds as_list w n r)
-rounds_kept w long zero r kept = kept
-rounds_kept w long (suc n) r kept = round_kept w long (rounds as_list w n) (rounds_kept w long n) (is_over r) r kept
-
-abbrev started_with : Setting → List Live → Running (List ℕ)
+abbrev pub started_with : Setting → List Live → Running (List ℕ)
 started_with w threads = record { words = opening w.unit; asked = []; threads = threads }
 
 called_kept : (w : Setting) (function : ℕ) (info : Option FunctionInfo) → HasMerge w (started_with w (called w function info))
@@ -345,11 +327,6 @@ called_kept w function (Some info) = (
 )
 called_kept w function None = ([], record { legal = tt; words = refl; only = λ x h. absurd (none_in x h); placed = tt; few = omega arith })
 
-first_kept : (w : Setting) (found : Option ℕ) → HasMerge w (started_with w (first_thread w found))
+pub first_kept : (w : Setting) (found : Option ℕ) → HasMerge w (started_with w (first_thread w found))
 first_kept w (Some function) = called_kept w function (slice_get w.unit.functions function)
 first_kept w None = ([], record { legal = tt; words = refl; only = λ x h. absurd (none_in x h); placed = tt; few = omega arith })
-
--- A scheduled run has such a merge, where memory has all its words.
-pub scheduled_kept : (w : Setting) (schedule : List ℕ) → length (opening w.unit) ≡ table_words → HasMerge w (scheduled w schedule)
-scheduled_kept w schedule long =
-    rounds_kept w long _ (turns as_list w schedule (opened w (opening w.unit))) (turns_kept w long schedule (opened w (opening w.unit)) (first_kept w (entry_of w)))

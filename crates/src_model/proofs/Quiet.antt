@@ -1,5 +1,5 @@
--- Quiet steps come to an end: each lowers the weight of what remains.
-use Rattle.std.proofs.Common.{◌≡◌, refl, ℕ, zero, suc, ◌+◌, ◌*◌, ◌<◌, ◌≤◌, Bool, true, false, ◌||◌, List, [], ◌∷◌, length, drop, Option, Some, None, Result, Ok, Err, arith, nat_eq, nat_lt, if◌then◌else◌, slice_get}
+-- Quiet steps come to an end: each lowers the weight of what remains. And a step that makes an event ignores the word beside it unless that answers.
+use Rattle.std.proofs.Common.{◌≡◌, refl, ap, ℕ, zero, suc, ◌+◌, ◌*◌, ◌<◌, ◌≤◌, Bool, true, false, ◌||◌, List, [], ◌∷◌, length, drop, Option, Some, None, Result, Ok, Err, arith, nat_eq, nat_lt, if◌then◌else◌, slice_get}
 use Rattle.arithmetic.specs.Values.{applied, applied_to, member_of, is_true, number}
 use Rattle.arithmetic.specs.declared.traps.TrapKind.{TrapKind}
 use Rattle.arithmetic.specs.declared.traps.TrapKind.TheVariants.{NullCall, StackOverflow, NoreturnReturned}
@@ -29,21 +29,22 @@ use Rattle.core_unit.specs.Words.{packed}
 use Rattle.eff_types.specs.Types.{is_void}
 use Rattle.eff_types.specs.declared.types.CType.{CType}
 use Rattle.mcode.specs.Memory.{held_limit}
-use Rattle.mcode.specs.Stages.{held_at}
+use Rattle.mcode.specs.Stages.{held_at, turned_to}
 use Rattle.mcode.specs.Words.{accessed, loaded, written}
 use Rattle.mcode.specs.declared.events.Ask.TheVariants.{Load, Store, Enter, Leave}
 use Rattle.mcode.specs.declared.events.Finish.{Finish}
 use Rattle.mcode.specs.declared.events.Finish.TheVariants.{Exited}
-use Rattle.mcode.specs.Steps.{Step, Quiet, Makes, Ends, asks, does, is_quiet, settle, unless_quiet}
+use Rattle.mcode.specs.Steps.{Step, Quiet, Makes, Ends, is_answered, asks, does, is_quiet, settle, unless_quiet}
+use Rattle.mcode.proofs.Unanswered.{IsIgnored, Ignores, same_answered, stage_ignores}
 use Rattle.src_model.specs.Rules.{before, goes, fails, local_address, arguments, call_tasks, value_step, address_step, statement_step, all_tasks, optional_tasks, variable_tasks, behind_loop, end_of_body}
-use Rattle.src_model.specs.Source.{accesses_at, puts, serve, value_of_step, finds, finds_of_held, also_step, fill_step, entered, leaves, is_main_in, enters, enters_body, enters_through, count_of, has_room, info_on_top, is_noreturn_in, stop_tasks, status_of, result_in, falls, decided_tasks, again_tasks, part_step, task_step, steps, step, settles}
+use Rattle.src_model.specs.Source.{accesses_at, puts, serve, value_of_step, finds, finds_of_held, also_step, fill_step, entered, leaves, is_main_in, enters, enters_body, enters_through, count_of, has_room, info_on_top, is_noreturn_in, stop_tasks, status_of, result_in, staged, falls, decided_tasks, again_tasks, part_step, task_step, steps, step, settles, next, after, turned}
 use Rattle.src_model.specs.Tasks.{Part, Value, Address, Hold, LoadAs, StoreAs, Retype, Change, Apply, Advance, StoreStep, Shift, Also, Truth, Pick, Branch, Fill, Put, Guard, Check, Begin, BeginThrough, Meet, Bind, Forget, Arrive, In, Loop, While, DoWhile, For, Task, Now, Do, Turn, Decide, Again, Fall, Leaving, Stop, Deliver, Tell, Fail, Halting, Finished, State}
 use Rattle.src_model.specs.Weights.{size, place_size, sizes, optional_size, stored_size, statement_size, statement_sizes, part_weight, task_weight, again_weight, decide_weight, weight}
 
--- where a step is quiet, what remains weighs less than this
+-- where a step is quiet, what remains weighs less than this; where it makes an event that nothing answers, the word beside that is ignored
 abbrev pub Lowers : ℕ → Step State → Type 0
 Lowers n (Quiet s) = weight s.todo < n
-Lowers n (Makes event after turned) = Unit {0}
+Lowers n (Makes event after turned) = IsIgnored event after turned
 Lowers n (Ends finish) = Unit {0}
 
 -- one of two steps
@@ -175,7 +176,7 @@ branch_weight false item other k = let rest = all_weight other k in omega (arith
 
 puts_lower : (n : ℕ) (u : UnitParts) (s : State) (offset : ℕ) (value : Word) (k : List Task) → 0 < n → Lowers n (puts u s offset value k)
 puts_lower n u s offset value k some =
-    access_lowers n s (accessed (DataPointer (local_address u s offset))) (λ at. does (Store at (packed value)) (record s { todo = k })) some (λ at. tt)
+    access_lowers n s (accessed (DataPointer (local_address u s offset))) (λ at. does (Store at (packed value)) (record s { todo = k })) some (λ at e a b. (refl, refl))
 
 fill_lowers : (u : UnitParts) (offset : ℕ) (stored : List Stored) (k : List Task) (s : State) → Lowers (8 * stored_size stored + weight k) (fill_step u offset stored k s)
 fill_lowers u offset [] k s = omega arith
@@ -187,7 +188,7 @@ fill_lowers u offset (StoredUndefined ∷ stored) k s = puts_lower (8 * (1 + sto
 body_lowers : (n : ℕ) (s : State) (function site : ℕ) (info : FunctionInfo) (body : Option Body) (more : ℕ) (k : List Task) → 0 < n → Lowers n (enters_body s function site info body more k)
 body_lowers n s function site info None more k some = some
 body_lowers n s function site info (Some body) more k some =
-    chosen (has_room s info) n (does (Enter function site) (entered s function site info body (length info.kind.params + more) k)) (fails s StackOverflow) tt some
+    chosen (has_room s info) n (does (Enter function site) (entered s function site info body (length info.kind.params + more) k)) (fails s StackOverflow) (λ e a b. (refl, refl)) some
 
 enters_lowers : (n : ℕ) (s : State) (function site : ℕ) (info : Option FunctionInfo) (more : ℕ) (k : List Task) → 0 < n → Lowers n (enters s function site info more k)
 enters_lowers n s function site None more k some = some
@@ -203,10 +204,11 @@ part_lowers u (Address p) k s = address_lowers u p k s
 part_lowers u Hold k s =
     chosen (nat_lt (length s.held) held_limit) (1 + weight k) (Quiet (record s { todo = k; held = s.value ∷ s.held })) (fails s StackOverflow) (omega arith) (omega arith)
 part_lowers u (LoadAs t) k s =
-    access_lowers (1 + weight k) s (accessed s.value) (λ at. asks (Load at) (λ word. serve s (loaded u t word) k)) (omega arith) (λ at. tt)
+    access_lowers (1 + weight k) s (accessed s.value) (λ at. asks (Load at) (λ word. serve s (loaded u t word) k)) (omega arith)
+    (λ at e a b. let clash : ⊥ = cc in absurd clash)
 part_lowers u (StoreAs t) k s =
     access_lowers (1 + weight k) s (accessed (held_at s.held 0))
-    (λ at. does (Store at (packed (written t s.value))) (record s { todo = k; held = drop 1 s.held })) (omega arith) (λ at. tt)
+    (λ at. does (Store at (packed (written t s.value))) (record s { todo = k; held = drop 1 s.held })) (omega arith) (λ at e a b. (refl, refl))
 part_lowers u (Retype from to) k s = omega arith
 part_lowers u (Change operator) k s = finds_lowers (1 + weight k) s (applied_to operator s.value) k (omega arith)
 part_lowers u (Apply operation t) k s = held_lowers (1 + weight k) s (applied operation (held_at s.held 0) s.value) k (omega arith)
@@ -214,7 +216,7 @@ part_lowers u (Advance operation t) k s = finds_lowers (1 + weight k) s (applied
 part_lowers u (StoreStep t which) k s =
     access_lowers (1 + weight k) s (accessed (held_at s.held 1))
     (λ at. does (Store at (packed (written t s.value)))
-    (record s { todo = k; value = value_of_step which s.value (held_at s.held 0); held = drop 2 s.held })) (omega arith) (λ at. tt)
+    (record s { todo = k; value = value_of_step which s.value (held_at s.held 0); held = drop 2 s.held })) (omega arith) (λ at e a b. (refl, refl))
 part_lowers u (Shift offset t) k s = finds_lowers (1 + weight k) s (member_of offset s.value) k (omega arith)
 part_lowers u (Also operator e) k s = also_lowers operator e (is_true s.value) k s
 part_lowers u Truth k s = omega arith
@@ -224,14 +226,15 @@ part_lowers u (Fill offset stored) k s = fill_lowers u offset stored k s
 part_lowers u (Put offset t) k s = puts_lower (1 + weight k) u s offset (written t s.value) k (omega arith)
 part_lowers u (Guard t) k s =
     chosen (is_true (held_at s.held (count_of (callee_of t)))) (1 + weight k) (goes s k) (fails s NullCall) (omega arith) (omega arith)
-part_lowers u Check k s = tt
+part_lowers u Check k s = λ e a b. let clash : ⊥ = cc in absurd clash
 part_lowers u (Begin function site) k s = enters_lowers (1 + weight k) s function site (slice_get u.functions function) 0 k (omega arith)
 part_lowers u (BeginThrough t site) k s = through_lowers (1 + weight k) u s (held_at s.held (count_of (callee_of t))) site k (omega arith)
-part_lowers u (Meet function site) k s = tt
+part_lowers u (Meet function site) k s = λ e a b. (refl, refl)
 part_lowers u (Bind offset back t) k s = puts_lower (1 + weight k) u s offset (written t (held_at s.held back)) k (omega arith)
 part_lowers u (Forget count) k s = omega arith
-part_lowers u (Arrive row site) k s = tt
-part_lowers u (In stage result) k s = tt
+part_lowers u (Arrive row site) k s = λ e a b. (refl, refl)
+part_lowers u (In stage result) k s = λ e a b.
+    let same = stage_ignores s.number stage e a b in (ap (λ onward. staged s result onward k) same, ap turned_to same)
 
 -- Tasks.
 
@@ -262,17 +265,17 @@ stop_lowers s t = stop_weight (nat_eq s.number 0) (Exited (status_of t s.value))
 task_lowers : (u : UnitParts) (task : Task) (k : List Task) (s : State) → Lowers (task_weight task + weight k) (task_step u task k s)
 task_lowers u (Now part) k s = part_lowers u part k s
 task_lowers u (Do item) k s = statement_lowers item k s
-task_lowers u (Turn loop) k s = tt
+task_lowers u (Turn loop) k s = λ e a b. let clash : ⊥ = cc in absurd clash
 task_lowers u (Decide loop) k s = decided_weight (is_true s.value) loop k
 task_lowers u (Again loop) k s = again_lowers loop k
 task_lowers u (Fall result) k s = falls_lowers (2 + weight k) (is_void result || is_main_in (info_on_top u s.frames)) s (omega arith)
 task_lowers u Leaving k s =
-    chosen (is_noreturn_in (info_on_top u s.frames)) (1 + weight k) (fails s NoreturnReturned) (does Leave (leaves s s.frames)) (omega arith) tt
+    chosen (is_noreturn_in (info_on_top u s.frames)) (1 + weight k) (fails s NoreturnReturned) (does Leave (leaves s s.frames)) (omega arith) (λ e a b. (refl, refl))
 task_lowers u (Stop function) k s = let few = stop_lowers s (result_in (slice_get u.functions function)) in omega (arith, few)
-task_lowers u (Deliver t) k s = tt
-task_lowers u Tell k s = tt
-task_lowers u (Fail kind) k s = tt
-task_lowers u (Halting finish) k s = tt
+task_lowers u (Deliver t) k s = λ e a b. (refl, refl)
+task_lowers u Tell k s = λ e a b. (refl, refl)
+task_lowers u (Fail kind) k s = λ e a b. (refl, refl)
+task_lowers u (Halting finish) k s = λ e a b. (refl, refl)
 task_lowers u (Finished finish) k s = tt
 
 steps_lower : (u : UnitParts) (todo : List Task) (s : State) → Lowers (weight todo) (steps u todo s)
@@ -292,3 +295,17 @@ loud u (suc n) s few = loud_from u (suc n) (weight s.todo) (step u s) (steps_low
 -- Each state comes to an event or to its finish.
 pub settles_loud : (u : UnitParts) (s : State) → is_quiet (settles u s) ≡ false
 settles_loud u s = loud u (weight s.todo) s (omega arith)
+
+-- What a step shows is answered or ignores the word beside it.
+
+ignores_from : (go : State → Step State) → ((s : State) → Ignores (go s)) → (n : ℕ) (made : Step State) → Lowers n made → Ignores (unless_quiet go made)
+ignores_from go on n (Quiet s) low = on s
+ignores_from go on n (Makes event after turned) low = low
+ignores_from go on n (Ends finish) low = tt
+
+settle_ignores : (u : UnitParts) (n : ℕ) (s : State) → Ignores (settle (step u) n s)
+settle_ignores u zero s = tt
+settle_ignores u (suc n) s = ignores_from (settle (step u) n) (settle_ignores u n) (weight s.todo) (step u s) (steps_lower u s.todo s)
+
+pub ignored : (u : UnitParts) (s : State) (word other : ℕ) → is_answered (next u s) ≡ false → (after u s word ≡ after u s other) × (turned u s word ≡ turned u s other)
+ignored u s word other e = same_answered (settles u s) s word other (settle_ignores u (suc (weight s.todo)) s) e

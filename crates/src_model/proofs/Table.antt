@@ -1,5 +1,5 @@
--- The events of a thread stay in the table of words.
-use Rattle.std.proofs.Common.{◌≡◌, refl, ℕ, zero, suc, ◌+◌, ◌-◌, ◌*◌, ◌^◌, ◌<◌, Bool, true, false, ◌||◌, List, [], ◌∷◌, length, drop, Option, Some, None, Result, Ok, Err, arith, nat_eq, nat_lt, if◌then◌else◌, slice_get}
+-- The events of a thread stay in the table of words; and an ending that has begun is over with the second event.
+use Rattle.std.proofs.Common.{◌≡◌, refl, ℕ, zero, suc, ◌+◌, ◌-◌, ◌*◌, ◌^◌, ◌<◌, Bool, true, false, ◌||◌, List, [], ◌∷◌, length, drop, Option, Some, None, Result, Ok, Err, arith, nat_eq, nat_lt, nat_le, if◌then◌else◌, slice_get}
 use Rattle.std.proofs.lemmas.Bool.Decides.{nat_tests}
 use Rattle.arithmetic.specs.Values.{applied, applied_to, member_of, is_true, bits_in, number}
 use Rattle.arithmetic.specs.declared.traps.TrapKind.{TrapKind}
@@ -32,8 +32,9 @@ use Rattle.eff_types.specs.Types.{is_void}
 use Rattle.eff_types.specs.declared.types.CType.{CType}
 use Rattle.mcode.specs.Memory.{halt, held_limit}
 use Rattle.mcode.specs.Stages.{Staged, Onto, Again as Retries, Gives, Traps, Exits, Halts, held_at, at_found, through, takes_block, frees, creates, gives_absolute, row_begins, begins_by, call_begins, stage_asks, stage_after, frees_block, joined, locked, read_text}
-use Rattle.mcode.specs.Steps.{Step, Quiet, Makes, Ends, asks, does, asked, answered, settle, unless_quiet}
+use Rattle.mcode.specs.Steps.{Step, Quiet, Makes, Ends, is_event, asks, does, asked, answered, settle, unless_quiet}
 use Rattle.mcode.specs.Words.{unpacked, loaded, written}
+use Rattle.mcode.specs.declared.events.Ask.{Ask}
 use Rattle.mcode.specs.declared.events.Ask.TheVariants.{Load, Store, Enter, Leave}
 use Rattle.mcode.specs.declared.events.Finish.{Finish}
 use Rattle.mcode.specs.declared.events.Finish.TheVariants.{Exited, Halted}
@@ -41,6 +42,7 @@ use Rattle.mcode.specs.declared.stages.Stage.{Stage}
 use Rattle.mcode.specs.declared.stages.Stage.TheVariants.{TakeBlock, ReturnBlock, MarkLive, ReadHeader, MarkFreed, CreateThread, TellThread, TryJoin, AwaitJoin, ReadResult, WriteResult, TryLock, AwaitLock, Unlock, ReadText, WriteText, EndText, WriteByte}
 use Rattle.src_model.specs.Laws.{IsInTable, Comes, begins, goes_on, halts}
 use Rattle.src_model.specs.Rules.{before, goes, fails, arguments, call_tasks, value_step, address_step, statement_step, all_tasks, list_tasks, optional_tasks, variable_tasks, behind_loop, end_of_body, local_address}
+use Rattle.src_model.specs.Runs.{is_ending}
 use Rattle.src_model.specs.Source.{accesses_at, accesses, puts, value_of_step, count_of, is_main_in, info_on_top, is_noreturn_in, finds, finds_of_held, serve, checked, also_step, fill_step, binds, meets, function_tasks, entered, enters, enters_body, enters_through, staged, has_room, leaves, status_of, result_in, falls, turn_tasks, decided_tasks, again_tasks, part_step, task_step, steps, step, settles, next, after, start}
 use Rattle.src_model.specs.Tasks.{Part, Value, Address, Hold, LoadAs, StoreAs, Retype, Change, Apply, Advance, StoreStep, Shift, Also, Truth, Pick, Branch, Fill, Put, Guard, Check, Begin, BeginThrough, Meet, Bind, Forget, Arrive, In, Loop, While, DoWhile, For, Task, Now, Do, Turn, Decide, Again, Fall, Leaving, Stop, Deliver, Tell, Fail, Halting, Finished, Frame, State}
 use Rattle.src_model.specs.Weights.{weight}
@@ -81,10 +83,28 @@ FramesLow (frame ∷ frames) = AreLow frame.back × FramesLow frames
 abbrev pub IsLow : State → Type 0
 IsLow s = (s.number < 64) × AreLow s.todo × FramesLow s.frames
 
+-- what remains is an ending: a store at most, or nothing
+abbrev pub IsClosing : List Task → Type 0
+IsClosing (Halting finish ∷ k) = Unit {0}
+IsClosing (Tell ∷ k) = Unit {0}
+IsClosing (Finished finish ∷ k) = Unit {0}
+IsClosing _ = ⊥
+
+-- where an event begins an ending, this is all that remains
+abbrev Closes : Ask → List Task → Type 0
+Closes event k = is_ending event ≡ true → IsClosing k
+
 abbrev StaysLow : Step State → Type 0
 StaysLow (Quiet s) = IsLow s
-StaysLow (Makes event after turned) = IsInTable event × ((word : ℕ) → IsLow (after word))
+StaysLow (Makes event after turned) = IsInTable event × ((word : ℕ) → IsLow (after word) × Closes event (after word).todo)
 StaysLow (Ends finish) = Unit {0}
+
+-- the events of objects begin none
+not_ending : (at : ℕ) (k : List Task) → at < halt → nat_le halt at ≡ true → IsClosing k
+not_ending at k low e = absurd (grind (arith, nat_tests))
+
+no_end : (k : List Task) → false ≡ true → IsClosing k
+no_end k e = let clash : ⊥ = cc in absurd clash
 
 -- one of two steps
 chosen : (b : Bool) (x y : Step State) → StaysLow x → StaysLow y → StaysLow (if b then x else y)
@@ -217,6 +237,27 @@ stage_in_table thread (ReadText at) low = omega (arith, low)
 stage_in_table thread (WriteText at byte) low = tt
 stage_in_table thread EndText low = tt
 stage_in_table thread (WriteByte byte) low = tt
+
+-- no event of a stage begins an ending
+stage_opens : (thread : ℕ) (stage : Stage) → LowStage stage → (k : List Task) → Closes (stage_asks thread stage) k
+stage_opens thread (TakeBlock words) low k = no_end k
+stage_opens thread (ReturnBlock words) low k = no_end k
+stage_opens thread (MarkLive at words) low k = not_ending at k low
+stage_opens thread (ReadHeader at) low k = no_end k
+stage_opens thread (MarkFreed at words) low k = no_end k
+stage_opens thread (CreateThread to function argument) low k = no_end k
+stage_opens thread (TellThread at child) low k = not_ending at k low
+stage_opens thread (TryJoin child to) low k = no_end k
+stage_opens thread (AwaitJoin child to) low k = no_end k
+stage_opens thread (ReadResult child to) low k = no_end k
+stage_opens thread (WriteResult at word) low k = not_ending at k low
+stage_opens thread (TryLock at) low k = no_end k
+stage_opens thread (AwaitLock at) low k = no_end k
+stage_opens thread (Unlock at) low k = no_end k
+stage_opens thread (ReadText at) low k = no_end k
+stage_opens thread (WriteText at byte) low k = no_end k
+stage_opens thread EndText low k = no_end k
+stage_opens thread (WriteByte byte) low k = no_end k
 
 took_if : (at words : ℕ) (b : Bool) → nat_lt (2 ^ 20) (at + words + 1) ≡ b → LowStaged (if b then Onto (ReturnBlock words) else Onto (MarkLive at words))
 took_if at words true e = tt
@@ -414,7 +455,7 @@ also_low logical.Or e false k s h low = (low.0, (tt, (tt, h)), low.2)
 
 -- a store, and on
 stores_low : (s t : State) (pointer : Word) (word : ℕ) → IsLow s → IsLow t → StaysLow (accesses s pointer (λ at. does (Store at word) t))
-stores_low s t pointer word low on = access_low s pointer (λ at. does (Store at word) t) low (λ at below_halt. (omega (arith, below_halt), λ _. on))
+stores_low s t pointer word low on = access_low s pointer (λ at. does (Store at word) t) low (λ at below_halt. (omega (arith, below_halt), λ _. (on, not_ending at t.todo below_halt)))
 
 puts_low : (u : UnitParts) (s : State) (offset : ℕ) (value : Word) (k : List Task) → AreLow k → IsLow s → StaysLow (puts u s offset value k)
 puts_low u s offset value k h low = stores_low s (record s { todo = k }) (DataPointer (local_address u s offset)) (packed value) low (low.0, h, low.2)
@@ -433,7 +474,7 @@ body_low : (s : State) (function site : ℕ) (info : FunctionInfo) (body : Optio
 body_low s function site info None more k h low = (low.0, (tt, tt), low.2)
 body_low s function site info (Some body) more k h low =
     chosen (has_room s info) (does (Enter function site) (entered s function site info body (length info.kind.params + more) k)) (fails s StackOverflow)
-    (tt, λ _. entered_low s function site info body (length info.kind.params + more) k h low) (low.0, (tt, tt), low.2)
+    (tt, λ _. (entered_low s function site info body (length info.kind.params + more) k h low, no_end _)) (low.0, (tt, tt), low.2)
 
 enters_low : (s : State) (function site : ℕ) (info : Option FunctionInfo) (more : ℕ) (k : List Task) → AreLow k → IsLow s → StaysLow (enters s function site info more k)
 enters_low s function site None more k h low = (low.0, (tt, tt), low.2)
@@ -459,7 +500,7 @@ part_low u Hold k s l h low =
     (low.0, h, low.2) (low.0, (tt, tt), low.2)
 part_low u (LoadAs t) k s l h low =
     access_low s s.value (λ at. asks (Load at) (λ word. serve s (loaded u t word) k)) low
-    (λ at below_halt. (omega (arith, below_halt), λ word. serve_low s (loaded u t word) k h low))
+    (λ at below_halt. (omega (arith, below_halt), λ word. (serve_low s (loaded u t word) k h low, no_end _)))
 part_low u (StoreAs t) k s l h low =
     stores_low s (record s { todo = k; held = drop 1 s.held }) (held_at s.held 0) (packed (written t s.value)) low (low.0, h, low.2)
 part_low u (Retype from to) k s l h low = (low.0, h, low.2)
@@ -478,19 +519,24 @@ part_low u (Fill offset stored) k s l h low = fill_low u offset stored k s h low
 part_low u (Put offset t) k s l h low = puts_low u s offset (written t s.value) k h low
 part_low u (Guard t) k s l h low =
     chosen (is_true (held_at s.held (count_of (callee_of t)))) (goes s k) (fails s NullCall) (low.0, h, low.2) (low.0, (tt, tt), low.2)
-part_low u Check k s l h low = (omega arith, λ word. checked_low s word k h low)
+part_low u Check k s l h low = (omega arith, λ word. (checked_low s word k h low, no_end _))
 part_low u (Begin function site) k s l h low = enters_low s function site (slice_get u.functions function) 0 k h low
 part_low u (BeginThrough t site) k s l h low = enters_through_low u s (held_at s.held (count_of (callee_of t))) site k h low
-part_low u (Meet function site) k s l h low = (tt, λ word. (low.0, h, low.2))
+part_low u (Meet function site) k s l h low = (tt, λ word. ((low.0, h, low.2), no_end _))
 part_low u (Bind offset back t) k s l h low = puts_low u s offset (written t (held_at s.held back)) k h low
 part_low u (Forget count) k s l h low = (low.0, h, low.2)
 part_low u (Arrive row site) k s l h low = (
   tt,
-  λ word. staged_low (record s { held = drop (count_of (row_type row)) s.held }) (result_of (row_type row)) (call_begins row s.held) k
-      (calls_low row s.held) h (low.0, low.1, low.2),
+  λ word. (
+    staged_low (record s { held = drop (count_of (row_type row)) s.held }) (result_of (row_type row)) (call_begins row s.held) k
+        (calls_low row s.held) h (low.0, low.1, low.2),
+    no_end _,
+  ),
 )
-part_low u (In stage result) k s l h low =
-    (stage_in_table s.number stage l, λ word. staged_low s result (stage_after s.number stage word) k (stage_low s.number stage word l) h low)
+part_low u (In stage result) k s l h low = (
+  stage_in_table s.number stage l,
+  λ word. (staged_low s result (stage_after s.number stage word) k (stage_low s.number stage word l) h low, stage_opens s.number stage l _),
+)
 
 -- Tasks.
 
@@ -525,19 +571,19 @@ stop_low false finish t = (tt, tt)
 task_low : (u : UnitParts) (task : Task) (k : List Task) (s : State) → LowTask task → AreLow k → IsLow s → StaysLow (task_step u task k s)
 task_low u (Now part) k s l h low = part_low u part k s l h low
 task_low u (Do item) k s l h low = statement_low item k s h low
-task_low u (Turn loop) k s l h low = (omega arith, λ word. checked_low s word (turn_tasks loop k) (turn_low loop k h) low)
+task_low u (Turn loop) k s l h low = (omega arith, λ word. (checked_low s word (turn_tasks loop k) (turn_low loop k h) low, no_end _))
 task_low u (Decide loop) k s l h low = (low.0, if_low (is_true s.value) (decided_tasks loop k) k (decided_low loop k h) h, low.2)
 task_low u (Again loop) k s l h low = (low.0, again_low loop k h, low.2)
 task_low u (Fall result) k s l h low = falls_low (is_void result || is_main_in (info_on_top u s.frames)) s low
 task_low u Leaving k s l h low =
     chosen (is_noreturn_in (info_on_top u s.frames)) (fails s NoreturnReturned) (does Leave (leaves s s.frames))
-    (low.0, (tt, tt), low.2) (tt, λ word. leaves_low s s.frames low.2 low)
+    (low.0, (tt, tt), low.2) (tt, λ word. (leaves_low s s.frames low.2 low, no_end _))
 task_low u (Stop function) k s l h low =
     let t = result_in (slice_get u.functions function) in (low.0, stop_low (nat_eq s.number 0) (Exited (status_of t s.value)) t, low.2)
-task_low u (Deliver t) k s l h low = let small = low.0 in (omega (arith, small), λ word. (low.0, (tt, tt), low.2))
-task_low u Tell k s l h low = let small = low.0 in (omega (arith, small), λ word. (low.0, (tt, tt), low.2))
-task_low u (Fail kind) k s l h low = (tt, λ word. (low.0, (tt, tt), low.2))
-task_low u (Halting finish) k s l h low = (omega arith, λ word. (low.0, (tt, tt), low.2))
+task_low u (Deliver t) k s l h low = let small = low.0 in (omega (arith, small), λ word. ((low.0, (tt, tt), low.2), λ e. tt))
+task_low u Tell k s l h low = let small = low.0 in (omega (arith, small), λ word. ((low.0, (tt, tt), low.2), λ e. tt))
+task_low u (Fail kind) k s l h low = (tt, λ word. ((low.0, (tt, tt), low.2), λ e. tt))
+task_low u (Halting finish) k s l h low = (omega arith, λ word. ((low.0, (tt, tt), low.2), λ e. tt))
 task_low u (Finished finish) k s l h low = tt
 
 steps_low : (u : UnitParts) (todo : List Task) (s : State) → AreLow todo → IsLow s → StaysLow (steps u todo s)
@@ -560,7 +606,7 @@ asked_low (Ends finish) low = tt
 
 answered_low : (made : Step State) (s : State) (word : ℕ) → StaysLow made → IsLow s → IsLow (answered made s word)
 answered_low (Quiet t) s word made low = made
-answered_low (Makes event after turned) s word made low = made.1 word
+answered_low (Makes event after turned) s word made low = (made.1 word).0
 answered_low (Ends finish) s word made low = low
 
 pub next_low : (u : UnitParts) (s : State) → IsLow s → IsInTable (next u s)
@@ -573,3 +619,36 @@ pub comes_low : (u : UnitParts) (s : State) → Comes u s → IsLow s
 comes_low u _ (begins number function arguments few) = (few, (tt, (tt, (tt, tt))), tt)
 comes_low u _ (goes_on s word before) = after_low u s word (comes_low u s before)
 comes_low u _ (halts s before) = let low = comes_low u s before in (low.0, (tt, tt), low.2)
+
+-- Where the next event begins an ending, nothing but the rest of that remains.
+
+closes_by : (made : Step State) (s : State) (word : ℕ) → StaysLow made → is_event (asked made) ≡ true → is_ending (asked made) ≡ true → IsClosing (answered made s word).todo
+closes_by (Quiet t) s word low event e = let clash : ⊥ = cc in absurd clash
+closes_by (Makes event after turned) s word low some e = (low.1 word).1 e
+closes_by (Ends finish) s word low event e = let clash : ⊥ = cc in absurd clash
+
+pub closes : (u : UnitParts) (s : State) (word : ℕ) → IsLow s → is_event (next u s) ≡ true → is_ending (next u s) ≡ true → IsClosing (after u s word).todo
+closes u s word low event e = closes_by (settles u s) s word (settle_low u (suc (weight s.todo)) s low) event e
+
+-- and then one event more at most.
+abbrev pub IsClosed : List Task → Type 0
+IsClosed (Finished finish ∷ k) = Unit {0}
+IsClosed _ = ⊥
+
+closing_step : (u : UnitParts) (todo : List Task) (s : State) (go : State → Step State) (word : ℕ) → IsClosing todo → is_event (asked (unless_quiet go (steps u todo s))) ≡ true → IsClosed (answered (unless_quiet go (steps u todo s)) s word).todo
+closing_step u [] s go word closing event = absurd closing
+closing_step u (Halting finish ∷ k) s go word closing event = tt
+closing_step u (Tell ∷ k) s go word closing event = tt
+closing_step u (Finished finish ∷ k) s go word closing event = let clash : ⊥ = cc in absurd clash
+closing_step u (task ∷ k) s go word closing event = absurd closing
+
+pub closed_after : (u : UnitParts) (s : State) (word : ℕ) → IsClosing s.todo → is_event (next u s) ≡ true → IsClosed (after u s word).todo
+closed_after u s word closing event = closing_step u s.todo s (settle (step u) (weight s.todo)) word closing event
+
+closed_step : (u : UnitParts) (todo : List Task) (s : State) (go : State → Step State) → IsClosed todo → is_event (asked (unless_quiet go (steps u todo s))) ≡ false
+closed_step u [] s go closed = absurd closed
+closed_step u (Finished finish ∷ k) s go closed = refl
+closed_step u (task ∷ k) s go closed = absurd closed
+
+pub closed_next : (u : UnitParts) (s : State) → IsClosed s.todo → is_event (next u s) ≡ false
+closed_next u s closed = closed_step u s.todo s (settle (step u) (weight s.todo)) closed

@@ -1,5 +1,5 @@
 -- Words for trials: small units that are written down as trees by hand, and the events of one thread over a memory of its own.
-use Rattle.std.proofs.Common.{ℕ, zero, suc, ◌+◌, ◌-◌, Bool, true, false, List, [], ◌∷◌, length, map, Option, Some, codes, nat_eq, if◌then◌else◌}
+use Rattle.std.proofs.Common.{ℕ, zero, suc, ◌+◌, ◌-◌, Bool, true, false, List, [], ◌∷◌, ◌++◌, length, map, take, Option, Some, codes, nat_eq, if◌then◌else◌}
 use denote.Hole.Carrier.{hidden}
 use Rattle.core_unit.specs.Library.{takes, row_type}
 use Rattle.core_unit.specs.Shapes.{callee_of}
@@ -13,9 +13,12 @@ use Rattle.eff_types.specs.Types.{points_to, same}
 use Rattle.eff_types.specs.declared.types.CType.TheBlock.{hidden-the_row-CType-0, shape-the_row-CType-0, hidden-the_row-CType-1, shape-the_row-CType-1}
 use Rattle.mcode.specs.Words.{unpacked}
 use Rattle.src_model.specs.Weights.{size, statement_size}
+use Rattle.ctx_set.specs.Prefixes.{prefixes, distinct, has}
 use Rattle.ctx_set.specs.declared.steps.StackStep.{StackStep}
+use Rattle.std.specs.Prelude.{flat_map}
+use Rattle.std.specs.List.{list_all}
 use Rattle.src_model.specs.Runs.{Setting}
-use Rattle.src_model.specs.Scheduled.{Memory, Live, Running, scheduled_over}
+use Rattle.src_model.specs.Scheduled.{Shared, Live, Running, has_room, scheduled_over}
 use Rattle.src_model.specs.declared.runs.End.{End}
 use Rattle.src_model.specs.declared.runs.Options.{Options}
 use Rattle.suppress.specs.declared.suppressions.Suppression.{Suppression}
@@ -241,11 +244,18 @@ abbrev pub noted : List Cell → List WordEvent → List Cell
 noted cells [] = cells
 noted cells (e ∷ es) = noted (cell (place_of e) (word_after e (word_at cells (place_of e))) ∷ cells) es
 
-abbrev pub as_cells : Memory (List Cell)
-as_cells = record { word_at = word_at; after_events = noted }
+abbrev pub as_cells : Shared (List Cell)
+as_cells = record { word_at = word_at; after_events = noted; has_room = has_room }
 
 abbrev pub over : Setting → (schedule : List ℕ) → Running (List Cell)
 over w schedule = scheduled_over as_cells w schedule (opening w.unit)
+
+-- the same with a board that has room for so many prefixes
+abbrev pub room_within : ℕ → (asked : List (List StackStep)) → List StackStep → Bool
+room_within n asked stack = list_all (has (take n (distinct (flat_map prefixes asked ++ prefixes stack)))) (prefixes stack)
+
+abbrev pub over_board : ℕ → Setting → (schedule : List ℕ) → Running (List Cell)
+over_board n w schedule = scheduled_over (record as_cells { has_room = room_within n }) w schedule (opening w.unit)
 
 -- how the threads of a scheduled run end
 abbrev pub ends : Setting → (schedule : List ℕ) → List (Option End)

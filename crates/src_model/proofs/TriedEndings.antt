@@ -1,5 +1,9 @@
 -- Whole runs of one thread: their traces, endings, places of reports and totals.
-use Rattle.std.proofs.Common.{◌≡◌, refl, ℕ, ◌+◌, ◌-◌, ◌*◌, ◌^◌, true, false, List, [], ◌∷◌, zero, suc, drop, replicate, Bool, codes, Some, None, pos, negsuc}
+use Rattle.std.proofs.Common.{◌≡◌, refl, ℕ, ◌+◌, ◌-◌, ◌*◌, ◌^◌, true, false, List, [], ◌∷◌, zero, suc, drop, replicate, Bool, codes, Some, None, pos, negsuc, arith}
+use Rattle.std.specs.declared.cmp.Ordering.TheVariants as order
+use Rattle.std.proofs.lemmas.List.Elements.{All-nil, All-cons}
+use Rattle.std.proofs.lemmas.List.Sums.{count_by-le-length}
+use Rattle.ctx_set.specs.Prefixes.{is_same, has}
 use Rattle.core_unit.specs.Library.{takes}
 use Rattle.core_unit.specs.Shapes.{pointer_to}
 use Rattle.core_unit.specs.declared.body.LoopKind.TheVariants as loop
@@ -7,22 +11,24 @@ use Rattle.core_unit.specs.declared.body.Stmt.TheVariants as stmt
 use Rattle.core_unit.specs.declared.expressions.Expr.TheVariants as expr
 use Rattle.core_unit.specs.declared.operators.Sign.TheVariants.{Unsigned as Without}
 use Rattle.core_unit.specs.declared.tables.UnitParts.{UnitParts}
+use Rattle.ctx_set.specs.declared.steps.StackStep.{StackStep}
 use Rattle.eff_types.specs.declared.levels.Level.TheVariants as level
 use Rattle.eff_types.specs.declared.types.CType.{Void, Int, Unsigned, Mutex}
 use Rattle.eff_types.specs.declared.types.FnType.{FnType}
 use Rattle.mcode.specs.declared.events.Ask.{Ask}
 use Rattle.mcode.specs.declared.events.Ask.TheVariants.{Load, Store, Exchange, FetchAdd, Enter, Leave, Reach, Out}
-use Rattle.src_model.specs.Excused.{is_excused}
-use Rattle.src_model.specs.Runs.{Setting, Start, Thread, entry_of, argument_words, is_report_place, tries_after, ending_after, IsThreadRun, report_stacks}
+use Rattle.src_model.specs.Excused.{is_excused, is_allocation}
+use Rattle.src_model.specs.Runs.{Setting, Start, Thread, entry_of, argument_words, is_report_place, tries_after, ending_after, IsThreadRun, report_stacks, count_of_stack}
 use Rattle.src_model.specs.Outputs.{output, dropped}
-use Rattle.src_model.specs.Totals.{total, unique, suppressed}
+use Rattle.src_model.specs.Totals.{total, unique, suppressed, stack_order, HasItsCount, AreStacks}
 use Rattle.src_model.specs.Traces.{frames_after, is_blocking_event}
 use Rattle.src_model.specs.declared.runs.End.TheVariants.{Exited, Halted, Stopped, Waiting}
 use Rattle.src_model.specs.declared.runs.Made.{Made}
 use Rattle.suppress.specs.declared.pattern.Pattern.{Pattern}
 use Rattle.suppress.specs.declared.suppressions.Suppression.{Suppression}
 use Rattle.suppress.specs.declared.suppressions.SuppressionKind.TheVariants.{FunctionNameMatches, CallStackContains}
-use Rattle.src_model.proofs.Trial.{nonblocking, with_effects, definition, unit, main_of, int, static, call, library_call, run, returns, number_word, defaults, setting, step, computing}
+use Rattle.src_model.proofs.Stacks.{counted_stands}
+use Rattle.src_model.proofs.Trial.{nonblocking, with_effects, definition, noreturn, unit, main_of, int, static, call, library_call, run, returns, number_word, defaults, setting, step, computing}
 
 abbrev void : FnType
 void = takes Void []
@@ -62,7 +68,7 @@ first_entry = refl
 first_run : IsThreadRun first first_thread
 unfolding computing
 first_run = record {
-  source = (refl, (λ _. refl), (refl, (λ _. refl), (refl, (λ _. refl), (refl, (λ _. refl), (refl, (λ _. refl), (refl, (λ _. refl), (refl, (λ _. refl), tt)))))));
+  source = (refl, refl, (λ _. refl), (refl, refl, (λ _. refl), (refl, refl, (λ _. refl), (refl, refl, (λ _. refl), (refl, refl, (λ _. refl), (refl, refl, (λ _. refl), (refl, refl, (λ _. refl), tt)))))));
   going_on = (refl, (refl, (refl, (refl, (refl, (refl, (refl, tt)))))));
   ends = refl;
   refused = λ r. let clash : ⊥ = cc in absurd clash;
@@ -71,6 +77,31 @@ first_run = record {
 first_stacks : report_stacks first first_trace ≡ (step 1 0 ∷ step 0 2 ∷ step 4096 1 ∷ []) ∷ []
 unfolding computing
 first_stacks = refl
+
+-- The stacks of the run, with their counts.
+abbrev first_stack : List StackStep
+first_stack = step 1 0 ∷ step 0 2 ∷ step 4096 1 ∷ []
+
+first_count : count_of_stack first (first_thread ∷ []) first_stack ≡ 1
+unfolding computing
+first_count = refl
+
+first_run_stacks : AreStacks first (first_thread ∷ []) (record { stack = first_stack; count = 1 } ∷ [])
+unfolding computing
+first_run_stacks = record {
+  counts = All-cons (HasItsCount first (first_thread ∷ [])) (record { stack = first_stack; count = 1 }) [] (refl, omega arith) (All-nil (HasItsCount first (first_thread ∷ [])));
+  all = λ s some. counted_stands s (first_stack ∷ []) (has (first_stack ∷ []) s) refl some;
+  once = λ s. count_by-le-length (is_same s) (first_stack ∷ []);
+  sorted = λ i d low. absurd (omega (arith, low));
+}
+
+-- a prefix stands before a longer stack, and functions decide before calls
+stack_orders :
+    stack_order (step 1 0 ∷ []) first_stack ∷ stack_order first_stack (step 1 0 ∷ []) ∷ stack_order first_stack first_stack
+    ∷ stack_order (step 1 0 ∷ step 0 3 ∷ []) (step 1 0 ∷ step 4096 2 ∷ []) ∷ stack_order (step 1 0 ∷ step 0 3 ∷ []) first_stack ∷ []
+    ≡ order.Less ∷ order.Greater ∷ order.Equal ∷ order.Less ∷ order.Greater ∷ []
+unfolding computing
+stack_orders = refl
 
 first_totals : total first (first_thread ∷ []) ∷ unique first (first_thread ∷ []) ∷ suppressed first (first_thread ∷ []) ∷ [] ≡ 1 ∷ 1 ∷ 0 ∷ []
 unfolding computing
@@ -126,6 +157,39 @@ first_excused : is_blocking_event first_unit (drop 2 first_trace) (Reach 4096 1)
     ≡ true ∷ false ∷ []
 unfolding computing
 first_excused = refl
+
+-- _Noreturn void die(void) { .. } is function 0, and is called by function 1, a nonblocking one, which main calls: what die reaches is excused. It is
+-- not where die stands below the lowest nonblocking function, nor of another effect.
+abbrev excusing : UnitParts
+excusing = unit (
+    noreturn (definition "die" void 0 [])
+    ∷ definition "f" (with_effects nonblocking void) 0 []
+    ∷ definition "g" (with_effects (record { level = level.NonAllocating; no_block_inference = false; no_alloc_inference = false }) void) 0 []
+    ∷ definition "main" (takes Int []) 0 []
+    ∷ definition "grows" (with_effects (record { level = level.Plain; no_block_inference = false; no_alloc_inference = true }) void) 0 []
+    ∷ []) []
+
+abbrev frames_of : List ℕ → List StackStep
+frames_of [] = []
+frames_of (function ∷ functions) = step function 1 ∷ frames_of functions
+
+excused_frames :
+    is_excused excusing level.NonBlocking (frames_of (0 ∷ 1 ∷ 3 ∷ [])) ∷ is_excused excusing level.NonBlocking (frames_of (1 ∷ 0 ∷ 1 ∷ 3 ∷ []))
+    ∷ is_excused excusing level.NonBlocking (frames_of (1 ∷ 0 ∷ 3 ∷ [])) ∷ is_excused excusing level.NonBlocking (frames_of (0 ∷ 2 ∷ 3 ∷ []))
+    ∷ is_excused excusing level.NonAllocating (frames_of (0 ∷ 2 ∷ 3 ∷ [])) ∷ is_excused excusing level.NonAllocating (frames_of (0 ∷ 1 ∷ 3 ∷ [])) ∷ []
+    ≡ true ∷ true ∷ false ∷ false ∷ true ∷ true ∷ []
+unfolding computing
+excused_frames = refl
+
+-- Allocation reaches: rows that may allocate and return, an `allocating` function that is entered; in a function of the level or above.
+allocations :
+    is_allocation excusing (frames_of (2 ∷ 3 ∷ [])) (Reach 4096 1) ∷ is_allocation excusing (frames_of (2 ∷ 3 ∷ [])) (Reach 4106 1)
+    ∷ is_allocation excusing (frames_of (2 ∷ 3 ∷ [])) (Reach 4109 1) ∷ is_allocation excusing (frames_of (1 ∷ 3 ∷ [])) (Reach 4096 1)
+    ∷ is_allocation excusing (frames_of (3 ∷ [])) (Reach 4096 1) ∷ is_allocation excusing (frames_of (4 ∷ 2 ∷ [])) (Enter 4 1)
+    ∷ is_allocation excusing (frames_of (4 ∷ 3 ∷ [])) (Enter 4 1) ∷ is_allocation excusing (frames_of (3 ∷ 2 ∷ [])) (Enter 3 1) ∷ []
+    ≡ true ∷ false ∷ false ∷ true ∷ false ∷ true ∷ false ∷ false ∷ []
+unfolding computing
+allocations = refl
 
 -- int main(void) { while (1) ; } with at most ten events
 abbrev endless : Setting

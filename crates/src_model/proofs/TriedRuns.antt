@@ -1,6 +1,7 @@
 -- The events of small whole units, with their counts. The halt word stands at 2^20; the stack of thread 0 begins 1,024 words behind the words of
 -- static storage, of which the first has address 1.
 use Rattle.std.proofs.Common.{◌≡◌, refl, ◌^◌, [], ◌∷◌, replicate, pos}
+use Rattle.std.specs.Prelude.{count_by}
 use Rattle.core_unit.specs.Library.{takes}
 use Rattle.core_unit.specs.declared.body.LoopKind.TheVariants as loop
 use Rattle.core_unit.specs.declared.body.Stmt.TheVariants as stmt
@@ -11,6 +12,7 @@ use Rattle.core_unit.specs.declared.operators.Sign.TheVariants.{Unsigned as With
 use Rattle.core_unit.specs.declared.tables.UnitParts.{UnitParts}
 use Rattle.eff_types.specs.declared.types.CType.{Void, Int}
 use Rattle.eff_types.specs.declared.types.FnType.{FnType}
+use Rattle.mcode.specs.Steps.{is_event}
 use Rattle.mcode.specs.declared.events.Ask.TheVariants.{Load, Store, Enter, Leave, Reach, Out, Over}
 use Rattle.mcode.specs.declared.events.Finish.TheVariants.{Exited, Halted}
 use Rattle.src_model.proofs.Trial.{nonblocking, blocking, with_effects, definition, noreturn, unit, main_of, int, local, value, call, library_call, arithmetic, run, returns, variable_is, number_word, events, events_until, at_reach, computing}
@@ -102,3 +104,11 @@ dying_events_on : events 40 dying_unit 2
     ∷ Load (2 ^ 20) ∷ Reach 4109 2 ∷ Store (2 ^ 20) 1 ∷ Over (Exited (pos 1)) ∷ []
 unfolding computing
 dying_events_on = refl
+
+-- How many events they are, the finishes aside.
+numbers_of_events :
+    count_by is_event (events_until (at_reach 4096) 20 first_unit 1) ∷ count_by is_event (events_until (at_reach 0) 20 blocking_unit 2)
+    ∷ count_by is_event (events 20 generated_unit 1) ∷ []
+    ≡ 7 ∷ 8 ∷ 13 ∷ []
+unfolding computing
+numbers_of_events = refl

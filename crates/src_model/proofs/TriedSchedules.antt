@@ -1,5 +1,5 @@
 -- Scheduled runs of two and three threads, from the start to their endings: how the turns are taken, what threads see of one another.
-use Rattle.std.proofs.Common.{◌≡◌, refl, ℕ, ◌+◌, ◌^◌, false, List, [], ◌∷◌, ◌++◌, map, Some, pos, replicate}
+use Rattle.std.proofs.Common.{◌≡◌, refl, ℕ, ◌+◌, ◌^◌, false, List, [], ◌∷◌, ◌++◌, map, Option, Some, pos, replicate}
 use Rattle.core_unit.specs.Library.{takes, void_pointer}
 use Rattle.core_unit.specs.Shapes.{pointer_to}
 use Rattle.core_unit.specs.declared.body.Initializer.TheVariants as init
@@ -16,14 +16,15 @@ use Rattle.core_unit.specs.declared.tables.UnitParts.{UnitParts}
 use Rattle.eff_types.specs.declared.types.CType.{Void, Int, Unsigned, Mutex}
 use Rattle.eff_types.specs.declared.types.FnType.{FnType}
 use Rattle.mcode.specs.declared.events.Ask.{Ask}
-use Rattle.mcode.specs.declared.events.Ask.TheVariants.{Load, Store, Enter, Leave}
+use Rattle.mcode.specs.declared.events.Ask.TheVariants.{Load, Store, Enter, Leave, Reach, Create}
 use Rattle.src_model.specs.Runs.{Setting}
 use Rattle.src_model.specs.Scheduled.{Live, thread_of}
 use Rattle.src_model.specs.Totals.{total, unique}
-use Rattle.src_model.specs.declared.runs.End.TheVariants.{Returned, Exited, Halted, Stopped, Waiting}
+use Rattle.src_model.specs.declared.runs.End.{End}
+use Rattle.src_model.specs.declared.runs.End.TheVariants.{Returned, Exited, Halted, Stopped, Waiting, Full}
 use Rattle.src_model.specs.declared.runs.Made.{Made}
 use Rattle.src_model.specs.declared.runs.Options.{Options}
-use Rattle.src_model.proofs.Trial.{nonblocking, with_effects, definition, unit, int, local, static, value, named, call, library_call, arithmetic, run, returns, variable, number_word, computing, defaults, setting, over, ends}
+use Rattle.src_model.proofs.Trial.{nonblocking, with_effects, definition, unit, int, local, static, value, named, call, library_call, arithmetic, run, returns, variable, number_word, computing, defaults, setting, over, over_board, ends}
 
 abbrev starts : FnType
 starts = takes void_pointer (void_pointer ∷ [])
@@ -168,3 +169,60 @@ totals_of w schedule = let threads = map thread_of (over w schedule).threads in 
 report_totals : totals_of (reporting (record defaults { halt_on_error = false })) [] ≡ 2 ∷ 1 ∷ []
 unfolding computing
 report_totals = refl
+
+-- Boards that are full. main starts a worker, calls f, which reports, and calls it once more; the worker calls it between. The three stacks have three
+-- prefixes each, of which main's two have the first in common.
+abbrev filling : Options → Setting
+filling options = setting (unit (
+    worker (run (call 2 2 (with_effects nonblocking (takes Void [])) []) ∷ [])
+    ∷ definition "main" (takes Int []) 1 (
+    thread 0 ∷ creates 3 0 0 ∷ run (call 4 2 (with_effects nonblocking (takes Void [])) []) ∷ run (call 5 2 (with_effects nonblocking (takes Void [])) []) ∷ returns (int 0) ∷ [])
+    ∷ definition "f" (with_effects nonblocking (takes Void [])) 0 (run (library_call 1 7 (expr.Number Without 1 ∷ [])) ∷ [])
+    ∷ []) (0 ∷ 0 ∷ [])) options []
+
+abbrev going_on : Setting
+going_on = filling (record defaults { halt_on_error = false })
+
+abbrev ends_within : ℕ → Setting → List (Option End)
+ends_within room w = map (λ (t : Live). t.end) (over_board room w []).threads
+
+abbrev totals_within : ℕ → Setting → List ℕ
+totals_within room w = let threads = map thread_of (over_board room w []).threads in total w threads ∷ unique w threads ∷ []
+
+-- With room for all of them nobody is refused.
+roomy_board : ends_within 8 going_on ≡ Some (Exited (pos 0)) ∷ Some Returned ∷ []
+unfolding computing
+roomy_board = refl
+
+roomy_totals : totals_within 8 going_on ≡ 3 ∷ 3 ∷ []
+unfolding computing
+roomy_totals = refl
+
+-- With one less main's last report is refused, and isn't counted; the worker goes on.
+last_refused : ends_within 7 going_on ≡ Some Full ∷ Some Returned ∷ []
+unfolding computing
+last_refused = refl
+
+last_totals : totals_within 7 going_on ≡ 2 ∷ 2 ∷ []
+unfolding computing
+last_totals = refl
+
+-- With room for five the worker's stack is refused, and the two prefixes of it for which there was room are held: so main's last one is refused too.
+both_refused : ends_within 5 going_on ≡ Some Full ∷ Some Full ∷ []
+unfolding computing
+both_refused = refl
+
+both_totals : totals_within 5 going_on ≡ 1 ∷ 1 ∷ []
+unfolding computing
+both_totals = refl
+
+-- The thread whose report is refused has ended with that event: nothing is stored at the halt word, also where a report would halt it.
+abbrev asks_of : List (List Ask) → List Ask
+asks_of (first ∷ rest) = first
+asks_of [] = []
+
+refused_last_event : asks_of (asks_in (over_board 2 (filling defaults) []).threads)
+    ≡ Reach 4103 1 ∷ Load (2 ^ 20) ∷ Enter 2 4 ∷ Load (2 ^ 20) ∷ Store 1027 (number_word 1) ∷ Create 0 0 ∷ Reach 4099 3 ∷ Load (2 ^ 20)
+    ∷ Store 1027 (2 ^ 60) ∷ Enter 1 0 ∷ Load (2 ^ 20) ∷ []
+unfolding computing
+refused_last_event = refl

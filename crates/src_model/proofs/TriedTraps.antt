@@ -8,7 +8,7 @@ use Rattle.core_unit.specs.declared.body.Stmt.{Stmt}
 use Rattle.core_unit.specs.declared.expressions.Expr.{Expr}
 use Rattle.core_unit.specs.declared.expressions.Expr.TheVariants as expr
 use Rattle.core_unit.specs.declared.expressions.Place.TheVariants as place
-use Rattle.core_unit.specs.declared.operators.ArithmeticOperator.TheVariants.{Divide, Add, LeftShift}
+use Rattle.core_unit.specs.declared.operators.ArithmeticOperator.TheVariants.{Divide, Add, Subtract, LeftShift}
 use Rattle.core_unit.specs.declared.operators.BinaryOperator.TheVariants as binary
 use Rattle.core_unit.specs.declared.operators.Cause.TheVariants as cause
 use Rattle.core_unit.specs.declared.operators.PointerSide.TheVariants.{Left}
@@ -26,7 +26,7 @@ use Rattle.mcode.specs.declared.events.Ask.TheVariants.{Load, Store, Exchange, E
 use Rattle.mcode.specs.declared.events.Finish.TheVariants.{Exited, Trapped}
 use Rattle.mcode.specs.declared.stages.Stage.TheVariants.{EndText}
 use Rattle.src_model.specs.Source.{next, start}
-use Rattle.src_model.specs.Tasks.{Hold, In, Now, State}
+use Rattle.src_model.specs.Tasks.{Value, Hold, In, Now, State}
 use Rattle.src_model.proofs.Trial.{nonblocking, with_effects, definition, noreturn, unit, main_of, int, local, static, value, named, call, library_call, arithmetic, run, returns, variable, variable_is, number_word, events, computing}
 
 abbrev void : FnType
@@ -151,6 +151,17 @@ holder count = record (start 0 0 []) { held = replicate count Zero; todo = Now H
 held_values : next (unit [] []) (holder 1023) ∷ next (unit [] []) (holder 1024) ∷ [] ≡ Out 10 ∷ Trap StackOverflow ∷ []
 unfolding computing
 held_values = refl
+
+-- Where as many are held as can be, 1 - 1 has a value as a null pointer constant, which isn't evaluated, and is trapped as a number.
+abbrev finder : Expr → State
+finder e = record (start 0 0 []) { held = replicate 1024 Zero; todo = Now (Value e) ∷ Now (In EndText Int) ∷ [] }
+
+abbrev nothing : Expr
+nothing = arithmetic Subtract (int 1) (int 1)
+
+null_constant : next (unit [] []) (finder (expr.Convert cause.Null (pointer_to Int) nothing)) ∷ next (unit [] []) (finder nothing) ∷ [] ≡ Out 10 ∷ Trap StackOverflow ∷ []
+unfolding computing
+null_constant = refl
 
 -- static int x; .. free(&x); reads address 0.
 bad_free : events 20 (unit (definition "main" (takes Int []) 0 (

@@ -2,7 +2,7 @@
 use Rattle.std.specs.Prelude.{◌≡◌, ℕ, Bool, true, false, List, [], ◌∷◌, Some}
 use Rattle.core_unit.specs.declared.tables.UnitParts.{UnitParts}
 use Rattle.mcode.specs.Machine.{Program, Machine, machine_next, machine_after, machine_turned, machine_start, machine_cut}
-use Rattle.src_model.specs.Runs.{Setting, Start, moved, started, is_cut, function_from}
+use Rattle.src_model.specs.Runs.{Setting, Start, Thread, moved, moved_to, started, is_cut, function_from}
 use Rattle.src_model.specs.Source.{next, after, turned, cut}
 use Rattle.src_model.specs.Tasks.{State}
 use Rattle.src_model.specs.declared.runs.Made.{Made}
@@ -51,3 +51,7 @@ moves_of w (made ∷ before) = cut_move (is_cut w before made.ask) (Answers made
 -- the machine of a thread after a trace
 abbrev pub machine_after_trace : Setting → Program → Start → List Made → Machine
 machine_after_trace w c begin trace = moved w (machine_after c) machine_cut (machine_started begin) trace
+
+-- and that of a thread at its end
+abbrev pub machine_at_end : Setting → Program → Thread → Machine
+machine_at_end w c t = moved_to w (machine_after c) machine_cut (machine_started t.begin) t.refused t.trace

@@ -7,6 +7,7 @@ pub mod Runs
 pub mod Totals
 pub mod Outputs
 pub mod Excused
+pub mod Soundness
 pub mod Scheduled
 pub mod Follows
 pub mod Laws

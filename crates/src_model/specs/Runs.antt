@@ -1,6 +1,6 @@
 -- Runs: traces of up to 64 threads over one legal history of the words of memory, each up to its ending (this project's own rules on events, reports
 -- and endings). A trace has the latest event first.
-use Rattle.std.specs.Prelude.{◌≡◌, ℕ, suc, ◌<◌, ◌≤◌, Bool, true, false, ◌&&◌, ◌||◌, nat_eq, nat_lt, nat_le, if◌then◌else◌, List, [], ◌∷◌, drop, flat_map, length, count_by, Contains, All, Option, Some, None, ℤ, pos, slice_get, slice_index_or}
+use Rattle.std.specs.Prelude.{◌≡◌, ℕ, suc, ◌<◌, ◌≤◌, Bool, true, false, not, ◌&&◌, ◌||◌, nat_eq, nat_lt, nat_le, if◌then◌else◌, List, [], ◌∷◌, drop, flat_map, length, count_by, Contains, All, Option, Some, None, ℤ, pos, slice_get, slice_index_or}
 use Rattle.std.specs.List.{list_any}
 use Rattle.std.specs.Str.{bytes_eq}
 use Rattle.arithmetic.specs.Numbers.{bits_of}
@@ -14,6 +14,7 @@ use Rattle.ctx_set.specs.declared.steps.StackStep.{StackStep}
 use Rattle.eff_types.specs.Types.{is_number}
 use Rattle.eff_types.specs.declared.types.CType.{CType}
 use Rattle.mcode.specs.Memory.{halt}
+use Rattle.mcode.specs.Steps.{is_event, is_answered}
 use Rattle.mcode.specs.Words.{is_defined}
 use Rattle.mcode.specs.declared.events.Ask.{Ask}
 use Rattle.mcode.specs.declared.events.Ask.TheVariants.{Load, Store, Reach, Trap, Over}
@@ -25,7 +26,7 @@ use Rattle.rt_ctx.specs.Places.{stack_at}
 use Rattle.rt_ctx.specs.Suppressing.{is_suppressed_place as is_suppressed_reach, is_report_place as is_report_reach}
 use Rattle.src_model.specs.Source.{next, after, turned, start, cut}
 use Rattle.src_model.specs.Tasks.{State}
-use Rattle.src_model.specs.Traces.{is_answered, context_after, frames_after, stack_of_event, words_of, Creation, creations, has_refused_creation}
+use Rattle.src_model.specs.Traces.{context_after, frames_after, stack_of_event, words_of, Creation, creations, has_refused_creation}
 use Rattle.src_model.specs.declared.runs.End.{End}
 use Rattle.src_model.specs.declared.runs.End.TheVariants.{Returned, Exited, Trapped, Halted, Stopped, Waiting, Full}
 use Rattle.src_model.specs.declared.runs.Made.{Made}
@@ -94,6 +95,12 @@ moved w go halts s [] = s
 moved w go halts s (made ∷ before) =
     let t = go (moved w go halts s before) made.word in if is_cut w before made.ask then halts t else t
 
+-- The same after a whole trace. A report that the board refused cuts nothing short: its thread has ended with it.
+abbrev pub moved_to : {S : Type 0} → Setting → (go : S → ℕ → S) → (halts : S → S) → S → (refused : Bool) → List Made → S
+moved_to w go halts s refused [] = s
+moved_to w go halts s refused (made ∷ before) =
+    let t = go (moved w go halts s before) made.word in if is_cut w before made.ask && not refused then halts t else t
+
 -- the source thread at its start, and after a trace
 abbrev pub started : Start → State
 started begin = start begin.number begin.function begin.arguments
@@ -108,10 +115,11 @@ next_after w begin trace = next w.unit (state_after w begin trace)
 abbrev pub HasItsWord : Made → Type 0
 HasItsWord made = is_answered made.ask ≡ false → made.word ≡ 0
 
--- each event is the next one of the state before it
+-- each event is the next one of the state before it, and no finish
 abbrev pub IsSourceRun : Setting → Start → List Made → Type 0
 IsSourceRun w begin [] = Unit {0}
-IsSourceRun w begin (made ∷ before) = (next_after w begin before ≡ made.ask) × HasItsWord made × IsSourceRun w begin before
+IsSourceRun w begin (made ∷ before) =
+    (next_after w begin before ≡ made.ask) × (is_event made.ask ≡ true) × HasItsWord made × IsSourceRun w begin before
 
 -- Failed tries in a row: between two of one call the halt word is loaded, and every other event ends the row.
 abbrev pub tries_with : Turned → Ask → ℕ → ℕ
@@ -157,6 +165,15 @@ IsGoingOn w begin (made ∷ before) = (ending_after w begin false before ≡ Non
 abbrev pub is_last_a_report : Setting → List Made → Bool
 is_last_a_report w [] = false
 is_last_a_report w (made ∷ before) = is_report_place w before made.ask
+
+-- the ending of a thread whose last event the board refused
+abbrev pub is_full : End → Bool
+is_full Full = true
+is_full _ = false
+
+-- The thread with this trace and ending. Its ending tells whether the board refused its last event.
+abbrev pub ended : Start → List Made → End → Thread
+ended begin trace end = record { begin = begin; trace = trace; refused = is_full end; end = end }
 
 -- A thread's trace is one of the source thread up to its ending. The board refuses report places alone.
 pub record IsThreadRun (w : Setting) (t : Thread) : Type 0 where

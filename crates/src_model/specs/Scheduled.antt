@@ -27,14 +27,19 @@ pub record Live : Type 0 where
   pub refused : Bool
   pub end : Option End
 
--- how a run keeps the words of memory: the word at an address, and what is kept after word events
-pub record Memory (M : Type 0) : Type 0 where
+-- how a run keeps what its threads share: the word at an address and what is kept after word events, and whether the board has room for a stack
+-- behind those that it was asked to count before
+pub record Shared (M : Type 0) : Type 0 where
   pub word_at : M → (at : ℕ) → ℕ
   pub after_events : M → List WordEvent → M
+  pub has_room : (asked : List (List StackStep)) → List StackStep → Bool
 
--- as the list of all words
-abbrev pub as_list : Memory (List ℕ)
-as_list = record { word_at = λ words at. slice_index words at; after_events = λ words events. replay words events }
+abbrev pub has_room : (asked : List (List StackStep)) → List StackStep → Bool
+has_room asked stack = has_room_behind (flat_map prefixes asked) stack
+
+-- the words as the list of all of them, and a board of the room that boards have
+abbrev pub as_list : Shared (List ℕ)
+as_list = record { word_at = λ words at. slice_index words at; after_events = λ words events. replay words events; has_room = has_room }
 
 -- a run on its way: the words, the stacks that the board was asked to count, in order of asking, and the threads
 pub record Running (M : Type 0) : Type 0 where
@@ -45,12 +50,8 @@ pub record Running (M : Type 0) : Type 0 where
 abbrev pub fresh : Start → Live
 fresh begin = record { begin = begin; state = started begin; trace = []; tries = 0; refused = false; end = None }
 
--- the board has room for a stack behind those that it was asked to count before
-abbrev pub has_room : List (List StackStep) → List StackStep → Bool
-has_room asked stack = has_room_behind (flat_map prefixes asked) stack
-
 -- what answers an event: the word at its address; of a creation the next number, or none where 64 threads were made
-abbrev pub answer : {M : Type 0} → Memory M → Running M → Ask → ℕ
+abbrev pub answer : {M : Type 0} → Shared M → Running M → Ask → ℕ
 answer m r (Load at) = m.word_at r.words at
 answer m r (Exchange at old new) = m.word_at r.words at
 answer m r (FetchAdd at n) = m.word_at r.words at
@@ -77,41 +78,41 @@ abbrev pub stepped : Setting → Live → Ask → (answer : ℕ) → (refused : 
 stepped w t ask word refused =
     let s = after w.unit t.state word in
     with_end w (record t {
-      state = if is_cut w t.trace ask then cut s else s;
+      state = if is_cut w t.trace ask && not refused then cut s else s;
       trace = record { ask = ask; word = word } ∷ t.trace;
       tries = tries_with (turned w.unit t.state word) ask t.tries;
       refused = refused;
     })
 
 -- the board refuses the stack of an event that follows a trace
-abbrev pub is_refused : Setting → (asked : List (List StackStep)) → List Made → Ask → Bool
-is_refused w asked before ask = is_report_place w before ask && not (has_room asked (stack_of_event before ask))
+abbrev pub is_refused : {M : Type 0} → Shared M → Setting → (asked : List (List StackStep)) → List Made → Ask → Bool
+is_refused m w asked before ask = is_report_place w before ask && not (m.has_room asked (stack_of_event before ask))
 
 -- a thread of this number that hasn't ended makes its next event, which is answered so
-abbrev pub makes : {M : Type 0} → Memory M → Setting → (number : ℕ) → Live → Ask → (answer : ℕ) → Running M → Running M
+abbrev pub makes : {M : Type 0} → Shared M → Setting → (number : ℕ) → Live → Ask → (answer : ℕ) → Running M → Running M
 makes m w n t ask word r = record {
   words = m.after_events r.words (word_event ask word);
   asked = r.asked ++ asks_for w t.trace ask;
-  threads = set r.threads n (stepped w t ask word (is_refused w r.asked t.trace ask)) ++ children ask word;
+  threads = set r.threads n (stepped w t ask word (is_refused m w r.asked t.trace ask)) ++ children ask word;
 }
 
-abbrev pub makes_asked : {M : Type 0} → Memory M → Setting → (number : ℕ) → Live → Ask → Running M → Running M
+abbrev pub makes_asked : {M : Type 0} → Shared M → Setting → (number : ℕ) → Live → Ask → Running M → Running M
 makes_asked m w n t ask r = makes m w n t ask (answer m r ask) r
 
 -- a thread of this number makes its next event, unless it has ended
-abbrev pub makes_next : {M : Type 0} → Memory M → Setting → (number : ℕ) → Live → Option End → Running M → Running M
+abbrev pub makes_next : {M : Type 0} → Shared M → Setting → (number : ℕ) → Live → Option End → Running M → Running M
 makes_next m w n t None r = makes_asked m w n t (next w.unit t.state) r
 makes_next m w n t (Some end) r = r
 
-abbrev pub turn_of : {M : Type 0} → Memory M → Setting → (number : ℕ) → Option Live → Running M → Running M
+abbrev pub turn_of : {M : Type 0} → Shared M → Setting → (number : ℕ) → Option Live → Running M → Running M
 turn_of m w n (Some t) r = makes_next m w n t t.end r
 turn_of m w n None r = r
 
 -- A turn of the thread of this number; where it isn't there, or has ended, nothing happens.
-abbrev pub turn : {M : Type 0} → Memory M → Setting → (number : ℕ) → Running M → Running M
+abbrev pub turn : {M : Type 0} → Shared M → Setting → (number : ℕ) → Running M → Running M
 turn m w n r = turn_of m w n (slice_get r.threads n) r
 
-abbrev pub turns : {M : Type 0} → Memory M → Setting → List ℕ → Running M → Running M
+abbrev pub turns : {M : Type 0} → Shared M → Setting → List ℕ → Running M → Running M
 turns m w [] r = r
 turns m w (n ∷ ns) r = turns m w ns (turn m w n r)
 
@@ -124,13 +125,13 @@ abbrev pub is_over : {M : Type 0} → Running M → Bool
 is_over r = list_all (λ t. is_some t.end) r.threads
 
 -- a round, and then what follows it, unless all threads have ended
-abbrev pub round_unless_over : {M : Type 0} → Memory M → Setting → (Running M → Running M) → Bool → Running M → Running M
+abbrev pub round_unless_over : {M : Type 0} → Shared M → Setting → (Running M → Running M) → Bool → Running M → Running M
 round_unless_over m w go true r = r
 round_unless_over m w go false r = go (turns m w (numbers 0 64) r)
 
 -- Round after round each thread that hasn't ended makes one event, from thread 0 on, those included that are started in the round, until all have
 -- ended.
-abbrev pub rounds : {M : Type 0} → Memory M → Setting → ℕ → Running M → Running M
+abbrev pub rounds : {M : Type 0} → Shared M → Setting → ℕ → Running M → Running M
 rounds m w zero r = r
 rounds m w (suc n) r = round_unless_over m w (rounds m w n) (is_over r) r
 
@@ -149,7 +150,7 @@ opened w words = record { words = words; asked = []; threads = first_thread w (e
 
 -- First the threads of the schedule, then rounds. A thread makes at most two events beyond the event limit, and another one that it makes is
 -- begun before its limit; so of 64 threads, each made by the one before at the latest, all have ended then.
-abbrev pub scheduled_over : {M : Type 0} → Memory M → Setting → (schedule : List ℕ) → M → Running M
+abbrev pub scheduled_over : {M : Type 0} → Shared M → Setting → (schedule : List ℕ) → M → Running M
 scheduled_over m w schedule words = rounds m w (64 * (w.options.events + 4)) (turns m w schedule (opened w words))
 
 abbrev pub scheduled : Setting → (schedule : List ℕ) → Running (List ℕ)

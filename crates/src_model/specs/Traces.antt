@@ -1,6 +1,6 @@
 -- What a trace says of its thread: its frames and its disabled depth, its places of reports, its word events, the threads that it started (Clang's
 -- manual 'RealtimeSanitizer'). A trace has the latest event first.
-use Rattle.std.specs.Prelude.{ℕ, Bool, true, false, ◌||◌, nat_eq, if◌then◌else◌, List, [], ◌∷◌, ◌++◌, length}
+use Rattle.std.specs.Prelude.{ℕ, Bool, false, ◌||◌, nat_eq, if◌then◌else◌, List, [], ◌∷◌, ◌++◌, length}
 use Rattle.core_unit.specs.Units.{row_target}
 use Rattle.core_unit.specs.declared.tables.UnitParts.{UnitParts}
 use Rattle.ctx_set.specs.declared.steps.StackStep.{StackStep}
@@ -50,15 +50,6 @@ is_blocking_event u before _ = false
 abbrev pub stack_of_event : List Made → Ask → List StackStep
 stack_of_event before (Reach target site) = stack_at (frames_after before) target site
 stack_of_event before _ = []
-
--- whether a word answers an event
-abbrev pub is_answered : Ask → Bool
-is_answered (ask.Load at) = true
-is_answered (ask.Exchange at old new) = true
-is_answered (ask.FetchAdd at n) = true
-is_answered (ask.FetchSub at n) = true
-is_answered (Create function argument) = true
-is_answered _ = false
 
 -- the word event that an event is, with the word that answered it
 abbrev pub word_event : Ask → (answer : ℕ) → List WordEvent

@@ -5,6 +5,6 @@ mod laws;
 mod runs;
 mod traces;
 
-pub use laws::law_one_event;
+pub use laws::{law_one_event, law_scheduled, law_totals};
 pub use runs::{End, Made, Options};
 pub use traces::{Chain, Trace};
