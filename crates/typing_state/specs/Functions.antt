@@ -19,3 +19,11 @@ with_set change number functions None = functions
 -- the function of this number changed, where there is one
 abbrev pub changed_at : (FunctionInfo → FunctionInfo) → ℕ → List FunctionInfo → List FunctionInfo
 changed_at change number functions = with_set change number functions (slice_get functions number)
+
+-- the effects that it has in the whole unit
+abbrev pub settled : Effects → FunctionInfo → FunctionInfo
+settled effects f = record f { kind = record f.kind { effects = effects } }
+
+abbrev pub settled_at : Option Effects → ℕ → List FunctionInfo → List FunctionInfo
+settled_at (Some effects) number functions = changed_at (settled effects) number functions
+settled_at None number functions = functions

@@ -4,6 +4,7 @@
 mod functions;
 mod names;
 mod opening;
+mod parts;
 mod state;
 mod stop;
 mod storage;
