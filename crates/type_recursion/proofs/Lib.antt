@@ -1,0 +1,4 @@
+pub mod Continued
+pub mod Orders
+pub mod Forms
+pub mod Declared
