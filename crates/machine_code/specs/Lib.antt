@@ -1,0 +1,4 @@
+pub mod Bounds
+pub mod Codes
+pub mod Library
+pub mod Taken
