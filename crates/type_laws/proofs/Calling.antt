@@ -48,9 +48,9 @@ FunctionIsFormed structures None = Unit {0}
 row_formed : {n : _} (structures : List StructInfo) (ts : Row_of-CType n) → AreFormed structures ts → Each (IsFormed structures) (items-the_row-CType n ts)
 unfolding IsFormed
 row_formed structures end_of-CType f = tt
-row_formed structures (more_of-CType t ts) f = (f.0, row_formed structures ts f.1)
+row_formed structures (more_of-CType t ts) f = (f.0, row_formed structures ts f.2)
 
-function_in_formed : (structures : List StructInfo) (t : CType) → IsFormed structures t → FunctionIsFormed structures (function_in t)
+pub function_in_formed : (structures : List StructInfo) (t : CType) → IsFormed structures t → FunctionIsFormed structures (function_in t)
 unfolding IsFormed
 function_in_formed structures (Function' _ (more_of-CType r end_of-CType) _ ps effects) f =
     record { result = f.0; given = f.1; params = row_formed structures ps f.2 }
@@ -73,7 +73,7 @@ rows_formed structures = (
     (
       record { result = tt; given = refl; params = (tt, tt) },
       (
-        record { result = tt; given = refl; params = (tt, (tt, ((tt, refl, (tt, tt)), (tt, tt)))) },
+        record { result = tt; given = refl; params = (tt, (tt, ((tt, refl, (tt, refl, tt)), (tt, tt)))) },
         (
           record { result = tt; given = refl; params = (tt, (tt, tt)) },
           (
@@ -267,6 +267,10 @@ fresh_keeps called calls expression keeps s lawful =
         known = h.holds.known;
         outer = h.holds.outer;
         back = h.holds.back;
+        begun = h.holds.begun;
+        calm = h.holds.calm;
+        here = h.holds.here;
+        old = h.holds.old;
         tables = h.holds.tables;
       };
     }

@@ -8,7 +8,7 @@ use Rattle.eff_types.specs.declared.types.CType.{CType, Void, Char, Int, Unsigne
 use Rattle.eff_types.specs.declared.types.CType.TheBlock.{hidden-the_row-CType-0, shape-the_row-CType-0, hidden-the_row-CType-1, shape-the_row-CType-1}
 use Rattle.eff_types.specs.declared.types.CType.TheVariants as a_type
 use Rattle.core_unit.specs.Layout.{words_of, told}
-use Rattle.core_unit.specs.Shapes.{array_of}
+use Rattle.core_unit.specs.Shapes.{array_of, is_scalar}
 use Rattle.core_unit.specs.declared.tables.StructInfo.{StructInfo}
 use Rattle.type_rules.specs.Declarators.{part_type, parts_type, is_misplaced, are_misplaced, part_is_incomplete, are_incomplete, made}
 use Rattle.type_rules.specs.Seen.{Seen}
@@ -34,19 +34,23 @@ or_false_right : (a b : Bool) → a || b ≡ false → b ≡ false
 or_false_right true b e = absurd (cc)
 or_false_right false b e = e
 
+-- a parameter is a scalar
+abbrev pub IsParameter : List StructInfo → Parameter → Type 0
+IsParameter structures p = IsFormed structures p.kind × (is_scalar p.kind ≡ true)
+
 -- the parameters of a part
 abbrev pub PartIsFormed : List StructInfo → Part → Type 0
-PartIsFormed structures (FunctionOf ps attributes) = Each (λ p. IsFormed structures p.kind) ps
+PartIsFormed structures (FunctionOf ps attributes) = Each (IsParameter structures) ps
 PartIsFormed structures _ = Unit {0}
 
-row_of_list : (structures : List StructInfo) (ps : List Parameter) → Each (λ p. IsFormed structures p.kind) ps
+row_of_list : (structures : List StructInfo) (ps : List Parameter) → Each (IsParameter structures) ps
     → AreFormed structures (hidden-the_row-CType-1 (map (λ p. p.kind) ps))
 unfolding IsFormed hidden hidden-the_row-CType-0 shape-the_row-CType-0 hidden-the_row-CType-1 shape-the_row-CType-1
 row_of_list structures [] each = tt
-row_of_list structures (p ∷ ps) each = (each.0, row_of_list structures ps each.1)
+row_of_list structures (p ∷ ps) each = (each.0.0, each.0.1, row_of_list structures ps each.1)
 
 function_formed : (structures : List StructInfo) (t : CType) (ps : List Parameter) (effects : Effects) → IsFormed structures t → is_result t ≡ true
-    → Each (λ p. IsFormed structures p.kind) ps
+    → Each (IsParameter structures) ps
     → IsFormed structures (a_type.Function (record { result = t; params = map (λ p. p.kind) ps; effects = effects }))
 unfolding IsFormed hidden hidden-the_row-CType-0 shape-the_row-CType-0 hidden-the_row-CType-1 shape-the_row-CType-1
 function_formed structures t ps effects formed result each = (formed, result, row_of_list structures ps each)

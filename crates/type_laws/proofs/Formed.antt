@@ -1,7 +1,8 @@
--- Types as declarations make them: an array has elements with words, and a function gives a scalar or nothing.
+-- Types as declarations make them: an array has elements with words, and a function takes scalars and gives a scalar or nothing.
 use Rattle.std.proofs.Common.{◌≡◌, ℕ, ◌<◌, ◌≤◌, ◌*◌, true, refl, sym, ◌∙◌, ap, subst, List, length, slice_get, Option, Some, None, arith}
 use Rattle.eff_types.specs.declared.types.CType.{CType, Void, Char, Int, Unsigned, Mutex, Struct, Pointer', Array', Function', Row_of-CType, end_of-CType, more_of-CType}
 use Rattle.core_unit.specs.Layout.{words_of, struct_words, told}
+use Rattle.core_unit.specs.Shapes.{is_scalar}
 use Rattle.core_unit.specs.Structures.{IsWithin, AreWithin}
 use Rattle.core_unit.specs.declared.tables.MemberInfo.{MemberInfo}
 use Rattle.core_unit.specs.declared.tables.StructInfo.{StructInfo}
@@ -54,7 +55,7 @@ unfoldable mutual
 
   pub AreFormed : {n : _} → List StructInfo → Row_of-CType n → Type 0
   AreFormed structures end_of-CType = Unit {0}
-  AreFormed structures (more_of-CType t ts) = IsFormed structures t × AreFormed structures ts
+  AreFormed structures (more_of-CType t ts) = IsFormed structures t × (is_scalar t ≡ true) × AreFormed structures ts
 
 mutual
   unfolding IsFormed IsWithin
@@ -73,7 +74,7 @@ mutual
 
   within_of_all_formed : {n : _} (structures : List StructInfo) (ts : Row_of-CType n) → AreFormed structures ts → AreWithin (length structures) ts
   within_of_all_formed structures end_of-CType f = tt
-  within_of_all_formed structures (more_of-CType t ts) f = (within_of_formed structures t f.0, within_of_all_formed structures ts f.1)
+  within_of_all_formed structures (more_of-CType t ts) f = (within_of_formed structures t f.0, within_of_all_formed structures ts f.2)
 
 mutual
   unfolding IsWithin
@@ -148,4 +149,5 @@ mutual
   all_formed_stay : {n : _} (before after : List StructInfo) (ts : Row_of-CType n) → Stay before after → OpenAreEmpty before
       → AreFormed before ts → AreFormed after ts
   all_formed_stay before after end_of-CType stay empty f = tt
-  all_formed_stay before after (more_of-CType t ts) stay empty f = (formed_stays before after t stay empty f.0, all_formed_stay before after ts stay empty f.1)
+  all_formed_stay before after (more_of-CType t ts) stay empty f =
+      (formed_stays before after t stay empty f.0, f.1, all_formed_stay before after ts stay empty f.2)

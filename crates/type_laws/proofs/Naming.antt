@@ -38,7 +38,7 @@ use Rattle.type_laws.proofs.Typed as typed
 use Rattle.type_laws.proofs.Types.{is_given}
 
 -- what is true of each meaning is true of the one that is found
-in_scope : (P : Entity → Type 0) (scope : Scope Entity) (number : ℕ) (e : Entity) → Each (λ entry. P entry.1) scope → lookup (nat_eq number) scope ≡ Some e → P e
+pub in_scope : (P : Entity → Type 0) (scope : Scope Entity) (number : ℕ) (e : Entity) → Each (λ entry. P entry.1) scope → lookup (nat_eq number) scope ≡ Some e → P e
 in_scope P [] number e each is = absurd (cc)
 in_scope P (entry ∷ rest) number e each is = of (nat_eq number entry.0) is (λ further. in_scope P rest number e each.1 further)
   where
@@ -66,7 +66,7 @@ each_function P (g ∷ gs) zero f each e = let same : g ≡ f = cc in subst P sa
 each_function P (g ∷ gs) (suc i) f each e = each_function P gs i f each.1 e
 
 -- effects make no difference to what is formed
-formed_with : (structures : List StructInfo) (effects : Option Effects) (f : FnType) → IsFormed structures (a_type.Function f)
+pub formed_with : (structures : List StructInfo) (effects : Option Effects) (f : FnType) → IsFormed structures (a_type.Function f)
     → IsFormed structures (a_type.Function (effects_at effects f))
 unfolding IsFormed hidden hidden-the_row-CType-0 shape-the_row-CType-0 hidden-the_row-CType-1 shape-the_row-CType-1
 formed_with structures (Some e) f h = h
@@ -120,8 +120,7 @@ module _ (pre : Tables → Type 0) (s : Seen) (lawful : Lawful s) (at number : �
   named_keeps called (Some (TypeName t)) is = fails_keeps s 1 at
   named_keeps called (Some (Enumerator bits)) is =
       gives_keeps s (found_value at Int (expr.Number Signed bits)) lawful ((formed_plain s.structures).1, (type_of-Number Signed bits, refl)) (λ u leads knows p.
-      typed_as called u (expr.Number Signed bits) (typed.typed-Number u Signed bits
-      (found_is (IsLawfulEntity s.structures (length s.functions)) s.scopes number (Enumerator bits) lawful.entities is)))
+      typed_as called u (expr.Number Signed bits) (typed.typed-Number u Signed bits (found_is (IsKnownEntity u) s.scopes number (Enumerator bits) knows is)))
   named_keeps true (Some (Library row)) is =
       gives_keeps s (found_value at Void (expr.LibraryFunction row)) lawful ((formed_plain s.structures).0, (type_of-LibraryFunction row, refl)) (λ u leads knows p.
       library_callee u row (found_is (IsLawfulEntity s.structures (length s.functions)) s.scopes number (Library row) lawful.entities is))
@@ -150,6 +149,10 @@ name_keeps called at s lawful = moved (named called at.start (found s.scopes num
         known = h.holds.known;
         outer = h.holds.outer;
         back = h.holds.back;
+        begun = h.holds.begun;
+        calm = h.holds.calm;
+        here = h.holds.here;
+        old = h.holds.old;
         tables = h.holds.tables;
       };
     }

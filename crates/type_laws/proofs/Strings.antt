@@ -1,5 +1,5 @@
 -- Strings are objects of static storage, and `sizeof` counts words.
-use Rattle.std.proofs.Common.{◌≡◌, ℕ, zero, suc, ◌<◌, ◌+◌, ◌^◌, Bool, true, false, refl, sym, ap, subst, List, [], ◌∷◌, ◌++◌, length, slice_get, Option, Some, None, arith}
+use Rattle.std.proofs.Common.{◌≡◌, ℕ, zero, suc, ◌<◌, ◌+◌, ◌^◌, Bool, true, false, refl, sym, ap, subst, List, [], ◌∷◌, ◌++◌, length, slice_get, Option, None, arith}
 use denote.Hole.Carrier.{hidden}
 use Rattle.c_tree.specs.declared.words.Span.{Span}
 use Rattle.eff_types.specs.Types.{is_function}
@@ -28,36 +28,23 @@ use Rattle.type_laws.proofs.Formed.{IsFormed, stay_same}
 use Rattle.type_laws.proofs.Literals.{IsType, Nothing}
 use Rattle.type_laws.proofs.Operands.{IsFound, IsTypedFound, FormIsTyped}
 use Rattle.type_laws.proofs.Operations.{number_keeps}
-use Rattle.type_laws.proofs.Triples.{Each, AreLaidOut, Triple, Keeps, Always, Lawful, then_keeps, refused_keeps}
+use Rattle.type_laws.proofs.Lists.{get_before, get_last}
+use Rattle.type_laws.proofs.Triples.{Each, AreLaidOut, Triple, Keeps, Always, Lawful, calm_same, then_keeps, refused_keeps}
 use Rattle.type_laws.proofs.Typed as typed
 
 -- one object more
-laid_out_more : (first last words : ℕ) (objects : List Object) (variable : Option ℕ) → LaidOut first objects last → 0 < words
+pub laid_out_more : (first last words : ℕ) (objects : List Object) (variable : Option ℕ) → LaidOut first objects last → 0 < words
     → LaidOut first (objects ++ record { at = last; words = words; variable = variable } ∷ []) (last + words)
 laid_out_more first last words [] variable laid some = (sym laid, some, ap (λ n. n + words) laid)
 laid_out_more first last words (o ∷ os) variable laid some = (laid.0, laid.1, laid_out_more (first + o.words) last words os variable laid.2 some)
 
-stand_more : (words n : ℕ) (objects : List Object) (variable : Option ℕ) → AreLaidOut 1 objects words → 0 < n
+pub stand_more : (words n : ℕ) (objects : List Object) (variable : Option ℕ) → AreLaidOut 1 objects words → 0 < n
     → AreLaidOut 1 (objects ++ record { at = words + 1; words = n; variable = variable } ∷ []) (told (words + n))
 stand_more words n objects variable stand some few =
     let here : LaidOut 1 objects (words + 1) = subst (λ last. LaidOut 1 objects last) (omega arith) (stand (omega arith)) in
     let last : words + 1 + n ≡ 1 + told (words + n) = omega arith in
     subst (λ last. LaidOut 1 (objects ++ record { at = words + 1; words = n; variable = variable } ∷ []) last) last
     (laid_out_more 1 (words + 1) n objects variable here some)
-
-get_before : (xs : List Object) (x : Object) (i : ℕ) (y : Object) → slice_get xs i ≡ Some y → slice_get (xs ++ x ∷ []) i ≡ Some y
-get_before [] x i y e = absurd (cc)
-get_before (z ∷ zs) x zero y e = e
-get_before (z ∷ zs) x (suc i) y e = get_before zs x i y e
-
-get_at : (xs : List Object) (x : Object) (n : ℕ) → n ≡ length xs → slice_get (xs ++ x ∷ []) n ≡ Some x
-get_at [] x zero e = refl
-get_at [] x (suc n) e = absurd (omega arith)
-get_at (z ∷ zs) x zero e = absurd (omega arith)
-get_at (z ∷ zs) x (suc n) e = get_at zs x n (omega arith)
-
-get_last : (xs : List Object) (x : Object) → slice_get (xs ++ x ∷ []) (length xs) ≡ Some x
-get_last xs x = get_at xs x (length xs) refl
 
 -- an object of so many words, with what it holds at first
 pub object_kept : (pre : Tables → Type 0) (s : Seen) (bytes : List ℕ) → Lawful s
@@ -67,12 +54,18 @@ object_kept pre s bytes lawful = record {
   holds = record {
     lawful = record {
       bytes = lawful.bytes;
+      scoped = lawful.scoped;
       entities = lawful.entities;
       functions_formed = lawful.functions_formed;
       open_are_empty = lawful.open_are_empty;
       complete_have_words = lawful.complete_have_words;
       members_lawful = lawful.members_lawful;
+      sized = lawful.sized;
       few = lawful.few;
+      threads_stand = lawful.threads_stand;
+      tags_lawful = lawful.tags_lawful;
+      ranked = lawful.ranked;
+      variables_solid = lawful.variables_solid;
       statics_stand = stand_more s.static_words (length bytes + 1) s.statics None lawful.statics_stand (omega arith);
     };
     stay = stay_same s.structures;
@@ -84,6 +77,10 @@ object_kept pre s bytes lawful = record {
       begin = λ i x e. leads.begin i x (get_before s.statics _ i x e);
       thread_begin = leads.thread_begin;
     };
+    begun = λ k begun. begun;
+    calm = calm_same s;
+    here = λ n e is. is;
+    old = λ n t' storage k is. is;
     tables = λ u leads knows p. (
       knows,
       record {
@@ -116,6 +113,10 @@ found_as true s (Good f t) h = record {
     known = h.holds.known;
     outer = h.holds.outer;
     back = h.holds.back;
+    begun = h.holds.begun;
+    calm = h.holds.calm;
+    here = h.holds.here;
+    old = h.holds.old;
     tables = λ u leads knows p. let old = h.holds.tables u leads knows p in (old.0, of f.form u old.1);
   };
 }
@@ -172,6 +173,10 @@ unevaluated_keeps {A = A} K P rule same keeps s lawful = of (rule s) (keeps s la
         known = same a t s.sites h.holds.known;
         outer = h.holds.outer;
         back = h.holds.back;
+        begun = h.holds.begun;
+        calm = h.holds.calm;
+        here = h.holds.here;
+        old = h.holds.old;
         tables = h.holds.tables;
       };
     }

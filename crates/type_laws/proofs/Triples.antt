@@ -1,43 +1,45 @@
 -- Triples: what a rule keeps of what was seen before it, and what is true of what it gives. What it gives is read with the tables of the whole
 -- unit, to which those that were seen lead: so what is typed stays typed, and no lemma moves a tree from one table to the next.
-use Rattle.std.proofs.Common.{◌≡◌, ℕ, ◌<◌, ◌+◌, ◌-◌, ◌^◌, Bool, true, false, refl, List, [], ◌∷◌, length, drop, slice_get, Some, ◌∙◌}
+use Rattle.std.proofs.Common.{◌≡◌, ℕ, ◌<◌, ◌+◌, ◌-◌, ◌^◌, Bool, true, false, refl, List, length, drop, slice_get, Option, Some, ◌∙◌}
 use Rattle.std.specs.Prelude.{if◌then◌else◌}
-use Rattle.scopes.specs.Scope.{Scope}
+use Rattle.scopes.specs.Scope.{Scope, found_here}
+use Rattle.eff_types.specs.declared.types.CType.{CType}
 use Rattle.eff_types.specs.declared.types.CType.TheVariants as a_type
 use Rattle.eff_types.specs.declared.levels.Effects.{Effects}
 use Rattle.core_unit.specs.Layout.{LaidOut, words_of}
 use Rattle.core_unit.specs.Library.{row_types}
 use Rattle.core_unit.specs.Typed.{Tables, IsKept, IsNamed}
+use Rattle.core_unit.specs.declared.expressions.Storage.{Storage}
 use Rattle.core_unit.specs.declared.tables.FunctionInfo.{FunctionInfo}
-use Rattle.core_unit.specs.declared.tables.MemberInfo.{MemberInfo}
 use Rattle.core_unit.specs.declared.tables.Object.{Object}
 use Rattle.core_unit.specs.declared.tables.StructInfo.{StructInfo}
+use Rattle.core_unit.specs.declared.tables.VariableInfo.{VariableInfo}
 use Rattle.type_rules.specs.Functions.{effects_at}
 use Rattle.type_rules.specs.Reading.{Read, Good, Bad, and_then}
 use Rattle.type_rules.specs.Seen.{Seen}
 use Rattle.type_rules.specs.declared.names.Entity.{Entity}
 use Rattle.type_rules.specs.declared.names.Entity.TheVariants.{Variable, Function, TypeName, Enumerator, Library}
+use Rattle.type_rules.specs.declared.names.Tag.{Tag}
+use Rattle.type_rules.specs.declared.notes.Initial.{Initial}
 use Rattle.type_rules.specs.declared.notes.TypeWarning.{TypeWarning}
+pub use Rattle.type_laws.proofs.Each.{Each}
 use Rattle.type_laws.proofs.Formed.{IsFormed, Stay, OpenAreEmpty, CompleteHaveWords, stay_same, stay_twice}
+pub use Rattle.type_laws.proofs.Ranks.{IsLawfulMember, MembersAreLawful, AreSized, AreRankedSoFar}
+use Rattle.type_laws.proofs.Tags.{TagsAreLawful, IsBegun}
 use Rattle.type_laws.proofs.Types.{is_object}
-
--- of each item
-abbrev pub Each : {A : Type 0} → (A → Type 0) → List A → Type 0
-Each P [] = Unit {0}
-Each P (x ∷ xs) = P x × Each P xs
 
 -- what is true of the meaning of a name, by what was seen
 abbrev pub IsLawfulEntity : List StructInfo → ℕ → Entity → Type 0
 IsLawfulEntity structures functions (Variable t storage number) = IsFormed structures t × (is_object t ≡ true)
 IsLawfulEntity structures functions (Function number) = number < functions
 IsLawfulEntity structures functions (TypeName t) = IsFormed structures t
-IsLawfulEntity structures functions (Enumerator bits) = bits < 2 ^ 32
 IsLawfulEntity structures functions (Library row) = row < length row_types
 IsLawfulEntity structures functions _ = Unit {0}
 
 -- and by the tables of the whole unit
 abbrev pub IsKnownEntity : Tables → Entity → Type 0
 IsKnownEntity u (Variable t storage number) = IsKept u storage t
+IsKnownEntity u (Enumerator bits) = bits < 2 ^ 32
 IsKnownEntity u _ = Unit {0}
 
 -- of the meaning of each name in scope
@@ -52,31 +54,32 @@ AreLaidOut first objects words = words < 2 ^ 32 - 1 → LaidOut first objects (f
 pub record IsDeclared (structures : List StructInfo) (f : FunctionInfo) : Type 0 where
   pub formed : IsFormed structures (a_type.Function f.kind)
 
--- a member of a complete structure
-pub record IsLawfulMember (structures : List StructInfo) (m : MemberInfo) : Type 0 where
-  pub formed : IsFormed structures m.kind
-  pub some : 0 < words_of structures m.kind
-  pub solid : is_object m.kind ≡ true
-
-abbrev pub MembersAreLawful : List StructInfo → Type 0
-MembersAreLawful structures =
-    (k : ℕ) (info : StructInfo) (members : List MemberInfo) → slice_get structures k ≡ Some info → info.members ≡ Some members
-    → Each (IsLawfulMember structures) members
+-- a variable of file scope has a complete type
+abbrev pub IsSolidVariable : List StructInfo → VariableInfo → Type 0
+IsSolidVariable structures v = IsFormed structures v.kind × (0 < words_of structures v.kind)
 
 -- what is true of all that was seen
-pub record IsLawful (source : List ℕ) (scopes : List (Scope Entity)) (functions : List FunctionInfo) (structures : List StructInfo) (sizes : List ℕ)
-    (statics : List Object) (static_words : ℕ) : Type 0 where
+pub record IsLawful (source : List ℕ) (scopes : List (Scope Entity)) (tags : List (Scope Tag)) (functions : List FunctionInfo) (structures : List StructInfo) (sizes : List ℕ)
+    (statics : List Object) (static_words : ℕ) (thread_locals : List Object) (thread_words : ℕ)
+    (variables : List VariableInfo) : Type 0 where
   pub bytes : Each (λ byte. byte < 256) source
+  -- the reserved names stand around file scope
+  pub scoped : 0 < length (drop 1 scopes)
   pub entities : EachEntity (IsLawfulEntity structures (length functions)) scopes
   pub functions_formed : Each (IsDeclared structures) functions
   pub open_are_empty : OpenAreEmpty structures
   pub complete_have_words : CompleteHaveWords structures
   pub members_lawful : MembersAreLawful structures
+  pub sized : AreSized structures
   pub few : Each (λ words. words < 2 ^ 32) sizes
   pub statics_stand : AreLaidOut 1 statics static_words
+  pub threads_stand : AreLaidOut 0 thread_locals thread_words
+  pub tags_lawful : TagsAreLawful structures tags
+  pub ranked : AreRankedSoFar structures
+  pub variables_solid : Each (IsSolidVariable structures) variables
 
 abbrev pub Lawful : Seen → Type 0
-Lawful s = IsLawful s.source s.scopes s.functions s.structures s.sizes s.statics s.static_words
+Lawful s = IsLawful s.source s.scopes s.tags s.functions s.structures s.sizes s.statics s.static_words s.thread_locals s.thread_words s.variables
 
 -- a list of which each item stands in the other at the same index
 abbrev pub Begins : {A : Type 0} → List A → List A → Type 0
@@ -101,6 +104,55 @@ Leads s u = LeadsTo s.whole s.functions s.structures s.statics s.thread_locals u
 abbrev pub Knows : Seen → Tables → Type 0
 Knows s u = EachEntity (IsKnownEntity u) s.scopes
 
+-- what only declarations change, and blocks
+pub record IsCalm (whole whole' : List Effects) (functions functions' : List FunctionInfo) (definitions definitions' : List ℕ)
+    (variables variables' : List VariableInfo) (thread_locals thread_locals' : List Object) (thread_words thread_words' : ℕ)
+    (thread_values thread_values' : List Initial) (frame frame' : ℕ) (result result' : CType) : Type 0 where
+  pub whole_is : whole' ≡ whole
+  pub functions_are : functions' ≡ functions
+  pub definitions_are : definitions' ≡ definitions
+  pub variables_are : variables' ≡ variables
+  pub thread_locals_are : thread_locals' ≡ thread_locals
+  pub thread_words_are : thread_words' ≡ thread_words
+  pub thread_values_are : thread_values' ≡ thread_values
+  pub frame_is : frame' ≡ frame
+  pub result_is : result' ≡ result
+
+abbrev pub Calm : Seen → Seen → Type 0
+Calm s t =
+    IsCalm s.whole t.whole s.functions t.functions s.definitions t.definitions s.variables t.variables s.thread_locals t.thread_locals
+    s.thread_words t.thread_words s.thread_values t.thread_values s.frame t.frame s.result t.result
+
+pub calm_same : (s : Seen) → Calm s s
+calm_same s = record {
+  whole_is = refl;
+  functions_are = refl;
+  definitions_are = refl;
+  variables_are = refl;
+  thread_locals_are = refl;
+  thread_words_are = refl;
+  thread_values_are = refl;
+  frame_is = refl;
+  result_is = refl;
+}
+
+pub calm_twice : (s t v : Seen) → Calm s t → Calm t v → Calm s v
+calm_twice s t v p q = record {
+  whole_is = q.whole_is ∙ p.whole_is;
+  functions_are = q.functions_are ∙ p.functions_are;
+  definitions_are = q.definitions_are ∙ p.definitions_are;
+  variables_are = q.variables_are ∙ p.variables_are;
+  thread_locals_are = q.thread_locals_are ∙ p.thread_locals_are;
+  thread_words_are = q.thread_words_are ∙ p.thread_words_are;
+  thread_values_are = q.thread_values_are ∙ p.thread_values_are;
+  frame_is = q.frame_is ∙ p.frame_is;
+  result_is = q.result_is ∙ p.result_is;
+}
+
+-- a structure whose definition was begun before
+abbrev pub Begun : Seen → ℕ → Type 0
+Begun s k = IsBegun s.structures s.tags k
+
 -- what a rule made: `K` is true of it by what was seen by then, `P` by the tables, where `pre` is true of them
 pub record Made {A : Type 0} (pre : Tables → Type 0) (K : A → Seen → Type 0) (P : A → Tables → Type 0) (s : Seen) (a : A) (t : Seen) : Type 0 where
   pub lawful : Lawful t
@@ -109,6 +161,13 @@ pub record Made {A : Type 0} (pre : Tables → Type 0) (K : A → Seen → Type 
   -- names are declared in the innermost scope alone
   pub outer : drop 1 t.scopes ≡ drop 1 s.scopes
   pub back : (u : Tables) → Leads t u → Leads s u
+  pub begun : (k : ℕ) → Begun s k → Begun t k
+  pub calm : Calm s t
+  -- no name of the innermost scope takes another meaning
+  pub here : (name : ℕ) (e : Entity) → found_here s.scopes name ≡ Some e → found_here t.scopes name ≡ Some e
+  -- and none becomes a variable
+  pub old : (name : ℕ) (t' : CType) (storage : Storage) (n : Option ℕ) → found_here t.scopes name ≡ Some (Variable t' storage n)
+      → found_here s.scopes name ≡ Some (Variable t' storage n)
   pub tables : (u : Tables) → Leads t u → Knows s u → pre u → Knows t u × P a u
 
 abbrev pub Holds : {A : Type 0} → (A → Seen → Type 0) → Read A → Type 0
@@ -128,7 +187,7 @@ Always u = Unit {0}
 
 module _ {A B : Type 0} (pre : Tables → Type 0) (K : A → Seen → Type 0) (P : A → Tables → Type 0) (L : B → Seen → Type 0) (Q : B → Tables → Type 0) where
   -- what a rule makes behind another one
-  made_behind : (s : Seen) (a : A) (t : Seen) (b : B) (v : Seen) → Stay s.structures v.structures → Made pre K P s a t
+  pub made_behind : (s : Seen) (a : A) (t : Seen) (b : B) (v : Seen) → Stay s.structures v.structures → Made pre K P s a t
       → Made (λ u. pre u × P a u) L Q t b v → Made pre L Q s b v
   made_behind s a t b v stay first second = record {
     lawful = second.lawful;
@@ -136,6 +195,10 @@ module _ {A B : Type 0} (pre : Tables → Type 0) (K : A → Seen → Type 0) (P
     known = second.known;
     outer = second.outer ∙ first.outer;
     back = λ u leads. first.back u (second.back u leads);
+    begun = λ k begun. second.begun k (first.begun k begun);
+    calm = calm_twice s t v first.calm second.calm;
+    here = λ n e is. second.here n e (first.here n e is);
+    old = λ n t' storage k is. first.old n t' storage k (second.old n t' storage k is);
     tables = λ u leads knows p.
         let here = first.tables u (second.back u leads) knows p in second.tables u leads here.0 (p, here.1);
   }
@@ -163,6 +226,10 @@ module _ {A : Type 0} {pre : Tables → Type 0} {K : A → Seen → Type 0} {P :
       known = known;
       outer = refl;
       back = λ u leads. leads;
+      begun = λ k begun. begun;
+      calm = calm_same s;
+      here = λ n e is. is;
+      old = λ n t' storage k is. is;
       tables = λ u leads knows p. (knows, typed u leads knows p);
     };
   }
@@ -187,6 +254,10 @@ module _ {A : Type 0} {pre : Tables → Type 0} {K : A → Seen → Type 0} {P :
       known = known;
       outer = refl;
       back = λ u leads. leads;
+      begun = λ k begun. begun;
+      calm = calm_same s;
+      here = λ n e is. is;
+      old = λ n t' storage k is. is;
       tables = λ u leads knows p. (knows, typed u leads knows p);
     };
   }
@@ -200,6 +271,10 @@ module _ {A : Type 0} {pre : Tables → Type 0} {K : A → Seen → Type 0} {P :
       known = h.holds.known;
       outer = h.holds.outer;
       back = h.holds.back;
+      begun = h.holds.begun;
+      calm = h.holds.calm;
+      here = h.holds.here;
+      old = h.holds.old;
       tables = λ u leads knows p. h.holds.tables u leads knows tt;
     };
   }

@@ -87,15 +87,15 @@ impl<'a> Typing<'a> {
         thread_words: WordList,
     ) -> UnitParts
         ensures { result ≡ record {
-            functions = self.entry.functions;
-            definitions = self.entry.definitions;
-            sites = sites;
-            variables = self.entry.variables;
-            structures = self.entry.structures;
-            statics = self.entry.statics;
-            thread_locals = self.entry.thread_locals;
-            static_words = static_words;
-            thread_words = thread_words;
+          functions = self.entry.functions;
+          definitions = self.entry.definitions;
+          sites = sites;
+          variables = self.entry.variables;
+          structures = self.entry.structures;
+          statics = self.entry.statics;
+          thread_locals = self.entry.thread_locals;
+          static_words = static_words;
+          thread_words = thread_words;
         } }
     {
         let Typing {
