@@ -2,26 +2,14 @@
 use Rattle.std.specs.Prelude.{ℕ, suc, ◌+◌, ◌-◌, ◌^◌, ◌<◌, ◌≤◌, List, [], ◌∷◌}
 use Rattle.mcode.specs.Machine.{Machine}
 use Rattle.mcode.specs.Memory.{halt, frame_limit, stack_words}
+pub use Rattle.mcode.specs.Memory.{table_words, IsInTable}
 use Rattle.mcode.specs.declared.events.Ask.{Ask}
-use Rattle.mcode.specs.declared.events.Ask.TheVariants.{Load, Store, Exchange, FetchAdd, FetchSub, Enter, Leave, Create}
+use Rattle.mcode.specs.declared.events.Ask.TheVariants.{Enter, Leave, Create}
 use Rattle.mcode.specs.declared.stages.Stage.{Stage}
 use Rattle.mcode.specs.declared.stages.Stage.TheVariants.{MarkLive, ReadHeader, MarkFreed, TellThread, TryJoin, AwaitJoin, ReadResult, WriteResult, TryLock, AwaitLock, Unlock, ReadText}
 use Rattle.mcode.specs.declared.thread.Caller.{Caller}
 use Rattle.mcode.specs.declared.thread.Mode.{Mode}
 use Rattle.mcode.specs.declared.thread.Mode.TheVariants.{Filling, Spelling, Calling}
-
--- so many words has memory: those of objects up to the halt word, and the words of threads behind it
-abbrev pub table_words : ℕ
-table_words = 2 ^ 20 + 192
-
--- the address of an event, if it has one, is one of the table
-abbrev pub IsInTable : Ask → Type 0
-IsInTable (Load at) = at < table_words
-IsInTable (Store at word) = at < table_words
-IsInTable (Exchange at old new) = at < table_words
-IsInTable (FetchAdd at n) = at < table_words
-IsInTable (FetchSub at n) = at < table_words
-IsInTable _ = Unit {0}
 
 -- The word may answer the event: one of 64 threads was started, or none.
 abbrev pub CanAnswer : Ask → ℕ → Type 0

@@ -1,8 +1,8 @@
 -- What is true of each code.
-use Rattle.std.specs.Prelude.{◌≡◌, ℕ, ◌^◌, ◌≤◌, Bool, true, false, ◌||◌, nat_lt, List, length, Option, Some, slice_get}
+use Rattle.std.specs.Prelude.{◌≡◌, ℕ, ◌^◌, ◌<◌, ◌≤◌, Bool, true, false, ◌||◌, nat_lt, List, length, Option, Some, slice_get}
 use Rattle.mcode.specs.Machine.{Program}
 use Rattle.mcode.specs.declared.code.Instruction.{Instruction}
-use Rattle.mcode.specs.declared.code.Instruction.TheVariants.{SetLocal, SetThreadLocal, GoTo, GoIfZero, GoIfNotZero, Fill, FillText, Put, CheckHalt, Bind, CallRow}
+use Rattle.mcode.specs.declared.code.Instruction.TheVariants.{SetLocal, SetThreadLocal, GoTo, GoIfZero, GoIfNotZero, Fill, FillText, Put, CheckHalt, EnterFunction, EnterThrough, Bind, CallRow}
 use Rattle.machine_code.specs.Bounds.{IsOffset}
 
 -- at most so many instructions
@@ -19,6 +19,13 @@ IsLowInstruction (Put offset level) = IsOffset offset
 IsLowInstruction (Bind offset back level) = IsOffset offset
 IsLowInstruction (CallRow row site count) = row ≤ 2 ^ 20
 IsLowInstruction _ = Unit {0}
+
+-- a call site that an instruction names has a low number
+abbrev pub IsLowSite : Instruction → Type 0
+IsLowSite (EnterFunction function site) = site < 2 ^ 20
+IsLowSite (EnterThrough count site) = site < 2 ^ 20
+IsLowSite (CallRow row site count) = site < 2 ^ 20
+IsLowSite _ = Unit {0}
 
 abbrev pub is_check : Option Instruction → Bool
 is_check (Some CheckHalt) = true
@@ -38,5 +45,7 @@ GoesOn instructions place _ = Unit {0}
 pub record IsCode (c : Program) : Type 0 where
   pub short : length c.instructions ≤ code_limit
   pub static_words : c.static_words ≤ 2 ^ 20
+  pub functions : length c.entries ≤ 4096
+  pub sites : (place : ℕ) (i : Instruction) → slice_get c.instructions place ≡ Some i → IsLowSite i
   pub low : (place : ℕ) (i : Instruction) → slice_get c.instructions place ≡ Some i → IsLowInstruction i
   pub jumps : (place : ℕ) (i : Instruction) → slice_get c.instructions place ≡ Some i → GoesOn c.instructions place i

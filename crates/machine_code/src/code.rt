@@ -8,8 +8,9 @@ use crate::lists::CodeList;
 use mcode::{Entry, Instruction};
 use std::marker::Model;
 
-/// Code: at most 2^21 instructions, the characters of the strings that initialize block variables, what it knows of each function
-/// that is defined, the entry function, and how many words static storage has.
+/// Code: at most 2^21 instructions, whose call sites have numbers below 2^20, the characters of the strings that initialize block
+/// variables, what it knows of each function that is defined, of at most 4,096, the entry function, and how many words static storage
+/// has.
 #[derive(Drop)]
 pub struct Code {
     instructions: CodeList<Instruction>,
@@ -58,7 +59,7 @@ impl Code {
         self.entry
     }
 
-    /// What is true of each code: its jumps go on, or to loads of the halt word.
+    /// What is true of each code: its jumps go on, or to loads of the halt word, and its numbers are low.
     pub fn is_code(&self)
         ensures { IsCode self.now }
     {

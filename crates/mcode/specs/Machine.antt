@@ -199,6 +199,7 @@ leaves c t [] = failing t NoValue
 leaves c t (caller ∷ []) = record t { callers = []; base = caller.base; top = t.base; mode = left c t caller.function }
 leaves c t (caller ∷ below ∷ callers) = record t { pc = caller.back; callers = below ∷ callers; base = caller.base; top = t.base }
 
+-- the value of `++` or `--`, of the new value and the old one (C17 6.5.2.4, 6.5.3.1)
 abbrev pub value_of_step : StepValue → (new old : Word) → Word
 value_of_step Prefix new old = new
 value_of_step Postfix new old = old

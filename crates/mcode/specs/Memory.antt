@@ -1,5 +1,7 @@
 -- Where the words stand that threads reach by themselves (this project's own layout, which is that of the opening words).
-use Rattle.std.specs.Prelude.{ℕ, ◌+◌, ◌*◌, ◌^◌}
+use Rattle.std.specs.Prelude.{ℕ, ◌+◌, ◌*◌, ◌^◌, ◌<◌}
+use Rattle.mcode.specs.declared.events.Ask.{Ask}
+use Rattle.mcode.specs.declared.events.Ask.TheVariants.{Load, Store, Exchange, FetchAdd, FetchSub}
 
 -- the word that tells all threads to halt, where it isn't 0; the words of objects stand below
 abbrev pub halt : ℕ
@@ -16,6 +18,19 @@ done_of thread = 2 ^ 20 + 64 + thread
 -- the word for the result of a thread
 abbrev pub result_of : ℕ → ℕ
 result_of thread = 2 ^ 20 + 128 + thread
+
+-- so many words has memory: those of objects up to the halt word, and the words of threads behind it
+abbrev pub table_words : ℕ
+table_words = 2 ^ 20 + 192
+
+-- the address of an event, if it has one, is one of the table
+abbrev pub IsInTable : Ask → Type 0
+IsInTable (Load at) = at < table_words
+IsInTable (Store at word) = at < table_words
+IsInTable (Exchange at old new) = at < table_words
+IsInTable (FetchAdd at n) = at < table_words
+IsInTable (FetchSub at n) = at < table_words
+IsInTable _ = Unit {0}
 
 -- The thread-local variables of a thread, behind so many words of static storage.
 abbrev pub region_of : (static_words thread : ℕ) → ℕ

@@ -49,7 +49,7 @@ held_at held place = slice_index_or held place Zero
 abbrev pub takes_block : ℕ → Staged
 takes_block words = if nat_lt words (2 ^ 32) then Onto (TakeBlock words) else Gives Zero
 
--- The header stands before the block. No pointer that a run makes is above the objects, so the test is for states that no run comes to.
+-- The header stands before the block. No pointer that a run makes is above 2^20, so the test is for states that no run comes to.
 abbrev pub frees : Word → Staged
 frees Zero = Gives Zero
 frees (DataPointer at) = if nat_lt (at - 1) halt then Onto (ReadHeader (at - 1)) else Traps BadAccess

@@ -1,5 +1,5 @@
 -- What all machines have in common: a state does one step, and an event is answered by a word.
-use Rattle.std.specs.Prelude.{ℕ, zero, suc, Bool, true, false, List, [], ◌∷◌}
+use Rattle.std.specs.Prelude.{ℕ, zero, suc, Bool, true, false}
 use Rattle.mcode.specs.declared.events.Ask.{Ask}
 use Rattle.mcode.specs.declared.events.Ask.TheVariants.{Load, Exchange, FetchAdd, FetchSub, Create, Over}
 use Rattle.mcode.specs.declared.events.Finish.{Finish}
@@ -69,8 +69,3 @@ abbrev pub turned_by : {S : Type 0} → Step S → ℕ → Turned
 turned_by (Quiet s) word = Went
 turned_by (Makes event after turned) word = turned word
 turned_by (Ends finish) word = Went
-
--- the state that is reached by these answers, one after another
-abbrev pub reached : {S : Type 0} → (S → ℕ → S) → S → List ℕ → S
-reached after s [] = s
-reached after s (word ∷ words) = reached after (after s word) words

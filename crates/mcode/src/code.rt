@@ -69,7 +69,7 @@ pub enum Instruction {
     Forget(u32),
     /// Reaches the library function of a row from a call site, with so many arguments, and then does what it does.
     CallRow(u32, u32, u32),
-    /// The end of the body of a function: the value is 0 where that may be reached.
+    /// The end of the body of a function: the value is 0 where reaching the end returns.
     FallOff,
     LeaveFunction,
     FailWith(TrapKind),
@@ -85,7 +85,7 @@ pub struct Entry {
     pub signature: u32,
     /// Whether it is marked `_Noreturn`.
     pub noreturn: bool,
-    /// Whether the end of its body may be reached: of `main`, and where it gives nothing.
+    /// Whether reaching the end of its body returns: of `main`, and where it gives nothing.
     pub falls: bool,
     /// Whether its result is a number.
     pub gives_number: bool,

@@ -1,10 +1,19 @@
 -- Compiled code does what the source thread does along each trace, also where a report cuts it short.
 use Rattle.std.proofs.Common.{◌≡◌, refl, sym, ap, ◌∙◌, ℕ, Bool, true, false, not, ◌&&◌, List, [], ◌∷◌, if◌then◌else◌}
 use Rattle.mcode.specs.Machine.{Program, machine_next, machine_after, machine_turned, machine_cut}
-use Rattle.src_model.specs.Follows.{Move, Answers, driven, Behaves, cut_move, moves_of, machine_started, machine_after_trace, machine_at_end}
+use Rattle.src_model.specs.Follows.{Move, Answers, Cuts, driven, Behaves, machine_started, machine_after_trace, machine_at_end}
 use Rattle.src_model.specs.Runs.{Setting, Start, Thread, moved, moved_to, started, is_cut, state_after, next_after}
 use Rattle.src_model.specs.Source.{next, after, turned, cut}
 use Rattle.src_model.specs.declared.runs.Made.{Made}
+
+-- what became of a thread, by its trace
+abbrev cut_move : Bool → List Move → List Move
+cut_move true moves = Cuts ∷ moves
+cut_move false moves = moves
+
+abbrev moves_of : Setting → List Made → List Move
+moves_of w [] = []
+moves_of w (made ∷ before) = cut_move (is_cut w before made.ask) (Answers made.word ∷ moves_of w before)
 
 cut_or_not : {S : Type 0} (go : S → ℕ → S) (halts : S → S) (s : S) (b : Bool) (word : ℕ) (moves : List Move) →
     (if b then halts (go (driven go halts s moves) word) else go (driven go halts s moves) word) ≡ driven go halts s (cut_move b (Answers word ∷ moves))
@@ -12,7 +21,7 @@ cut_or_not go halts s true word moves = refl
 cut_or_not go halts s false word moves = refl
 
 -- The state after a trace is that after its moves.
-pub moved_is_driven : {S : Type 0} (w : Setting) (go : S → ℕ → S) (halts : S → S) (s : S) (trace : List Made) → moved w go halts s trace ≡ driven go halts s (moves_of w trace)
+moved_is_driven : {S : Type 0} (w : Setting) (go : S → ℕ → S) (halts : S → S) (s : S) (trace : List Made) → moved w go halts s trace ≡ driven go halts s (moves_of w trace)
 moved_is_driven w go halts s [] = refl
 moved_is_driven w go halts s (made ∷ before) =
     ap (λ t. if is_cut w before made.ask then halts (go t made.word) else go t made.word) (moved_is_driven w go halts s before)

@@ -9,7 +9,8 @@ use Rattle.core_unit.specs.declared.tables.UnitParts.{UnitParts}
 use Rattle.mcode.specs.declared.events.Ask.{Ask}
 use Rattle.mcode.specs.declared.events.Ask.TheVariants as ask
 use Rattle.mcode.specs.declared.events.Ask.TheVariants.{Create}
-use Rattle.src_model.specs.Laws.{IsInTable, table_words, Comes, begins, goes_on, halts}
+use Rattle.mcode.specs.Memory.{IsInTable, table_words}
+use Rattle.src_model.specs.Laws.{Comes, begins, goes_on, halts}
 use Rattle.src_model.specs.Runs.{Setting, argument_words, is_cut, split_of}
 use Rattle.src_model.specs.Scheduled.{Live, as_list, Running, answer, children, is_refused, stepped, makes_asked, called, first_thread}
 use Rattle.src_model.specs.Source.{next, after, cut}

@@ -14,10 +14,11 @@ use Rattle.core_unit.specs.declared.tables.FunctionInfo.{FunctionInfo}
 use Rattle.core_unit.specs.declared.tables.UnitParts.{UnitParts}
 use Rattle.ctx_set.specs.Prefixes.{has}
 use Rattle.ctx_set.specs.declared.steps.StackStep.{StackStep}
+use Rattle.mcode.specs.Memory.{table_words}
 use Rattle.mcode.specs.Words.{is_defined}
 use Rattle.mcode.specs.declared.events.Ask.{Ask}
 use Rattle.mcode.specs.declared.events.Ask.TheVariants.{Create}
-use Rattle.src_model.specs.Laws.{table_words, CanBegin, IsScheduled}
+use Rattle.src_model.specs.Laws.{CanBegin, IsScheduled}
 use Rattle.src_model.specs.Runs.{Setting, Start, Thread, function_from, entry_of, argument_words, IsThreadRun, IsFirst, IsRefusedRightly, AreThreads, IsMerged, IsRun, all_creations, split_of}
 use Rattle.src_model.specs.Scheduled.{Live, Running, as_list, fresh, answer, children, asks_for, is_refused, stepped, makes_asked, is_over, called, first_thread, opened, scheduled, thread_of}
 use Rattle.src_model.specs.Source.{next}

@@ -39,7 +39,7 @@ use Rattle.mcode.proofs.Unanswered.{IsIgnored, Ignores, same_answered, stage_ign
 use Rattle.src_model.specs.Rules.{before, goes, fails, local_address, arguments, call_tasks, value_step, address_step, statement_step, all_tasks, optional_tasks, variable_tasks, behind_loop, end_of_body}
 use Rattle.src_model.specs.Source.{accesses_at, puts, serve, value_of_step, finds, finds_of_held, also_step, fill_step, entered, leaves, is_main_in, enters, enters_body, enters_through, count_of, has_room, info_on_top, is_noreturn_in, stop_tasks, status_of, result_in, staged, falls, decided_tasks, again_tasks, part_step, task_step, steps, step, settles, next, after, turned}
 use Rattle.src_model.specs.Tasks.{Part, Value, Address, Hold, LoadAs, StoreAs, Retype, Change, Apply, Advance, StoreStep, Shift, Also, Truth, Pick, Branch, Fill, Put, Guard, Check, Begin, BeginThrough, Meet, Bind, Forget, Arrive, In, Loop, While, DoWhile, For, Task, Now, Do, Turn, Decide, Again, Fall, Leaving, Stop, Deliver, Tell, Fail, Halting, Finished, State}
-use Rattle.src_model.specs.Weights.{size, place_size, sizes, optional_size, stored_size, statement_size, statement_sizes, part_weight, task_weight, again_weight, decide_weight, weight}
+use Rattle.src_model.specs.Weights.{measure, place_measure, measures, optional_measure, stored_measure, statement_measure, statement_measures, part_weight, task_weight, again_weight, decide_weight, weight}
 
 -- where a step is quiet, what remains weighs less than this; where it makes an event that nothing answers, the word beside that is ignored
 abbrev pub Lowers : ℕ → Step State → Type 0
@@ -54,19 +54,19 @@ chosen false n x y p q = q
 
 -- Expressions and places.
 
-arguments_weight : {n : _} (es : Row_of-Expr n) (k : List Task) → weight (arguments es k) ≤ 8 * sizes es + weight k
-unfolding size
+arguments_weight : {n : _} (es : Row_of-Expr n) (k : List Task) → weight (arguments es k) ≤ 8 * measures es + weight k
+unfolding measure
 arguments_weight end_of-Expr k = omega arith
 arguments_weight (more_of-Expr e es) k = let rest = arguments_weight es k in omega (arith, rest)
 
-call_weight : {n : _} (called : Callee) (c : Expr) (site : ℕ) (es : Row_of-Expr n) (k : List Task) → weight (call_tasks called c site es k) < 8 * (1 + size c + sizes es) + weight k
+call_weight : {n : _} (called : Callee) (c : Expr) (site : ℕ) (es : Row_of-Expr n) (k : List Task) → weight (call_tasks called c site es k) < 8 * (1 + measure c + measures es) + weight k
 call_weight (Named function) c site es k = let rest = arguments_weight es (before (Check ∷ Begin function site ∷ []) k) in omega (arith, rest)
 call_weight (Row row) c site es k = let rest = arguments_weight es (before (Check ∷ Arrive row site ∷ []) k) in omega (arith, rest)
 call_weight (Through signature) c site es k =
     let rest = arguments_weight es (before (Guard (type_of c) ∷ Check ∷ BeginThrough (type_of c) site ∷ []) k) in omega (arith, rest)
 
-value_lowers : (e : Expr) (k : List Task) (s : State) → Lowers (8 * size e + weight k) (value_step e k s)
-unfolding size
+value_lowers : (e : Expr) (k : List Task) (s : State) → Lowers (8 * measure e + weight k) (value_step e k s)
+unfolding measure
 value_lowers (expr.Number sign bits) k s = omega arith
 value_lowers expr.Null k s = omega arith
 value_lowers (expr.Sizeof words) k s = omega arith
@@ -91,8 +91,8 @@ value_lowers (expr.Convert' cause.Implicit t _ (more_of-Expr e end_of-Expr)) k s
 value_lowers (expr.Convert' cause.Cast t _ (more_of-Expr e end_of-Expr)) k s = omega arith
 value_lowers (expr.Discard' _ (more_of-Expr e end_of-Expr)) k s = omega arith
 
-address_lowers : (u : UnitParts) (p : Place) (k : List Task) (s : State) → Lowers (8 * place_size p + weight k) (address_step u p k s)
-unfolding size
+address_lowers : (u : UnitParts) (p : Place) (k : List Task) (s : State) → Lowers (8 * place_measure p + weight k) (address_step u p k s)
+unfolding measure
 address_lowers u (place.Variable at storage t) k s = omega arith
 address_lowers u (place.Text at words) k s = omega arith
 address_lowers u (place.Indirection' _ (more_of-Expr e end_of-Expr) t) k s = omega arith
@@ -102,16 +102,16 @@ address_lowers u (place.Member' _ (more_of-Place p end_of-Place) offset t) k s =
 
 -- Statements.
 
-all_weight : {n : _} (items : Row_of-Stmt n) (k : List Task) → weight (all_tasks items k) ≤ 8 * statement_sizes items + weight k
-unfolding statement_size
+all_weight : {n : _} (items : Row_of-Stmt n) (k : List Task) → weight (all_tasks items k) ≤ 8 * statement_measures items + weight k
+unfolding statement_measure
 all_weight end_of-Stmt k = omega arith
 all_weight (more_of-Stmt item items) k = let rest = all_weight items k in omega (arith, rest)
 
-optional_weight : (e : Option Expr) (k : List Task) → weight (optional_tasks e k) ≤ 8 * optional_size e + weight k
+optional_weight : (e : Option Expr) (k : List Task) → weight (optional_tasks e k) ≤ 8 * optional_measure e + weight k
 optional_weight None k = omega arith
 optional_weight (Some e) k = omega arith
 
-variable_weight : (storage : Storage) (initializer : Initializer) (k : List Task) → weight (variable_tasks storage initializer k) < 8 * (1 + stored_size (stores initializer)) + weight k
+variable_weight : (storage : Storage) (initializer : Initializer) (k : List Task) → weight (variable_tasks storage initializer k) < 8 * (1 + stored_measure (stores initializer)) + weight k
 variable_weight (Automatic offset) initializer k = omega arith
 variable_weight (Static address) initializer k = omega arith
 variable_weight (ThreadLocal offset) initializer k = omega arith
@@ -119,6 +119,7 @@ variable_weight (ThreadLocal offset) initializer k = omega arith
 behind_weight : (k : List Task) → weight (behind_loop k) ≤ weight k
 behind_weight [] = omega arith
 behind_weight (Do item ∷ k) = let rest = behind_weight k in omega (arith, rest)
+behind_weight (Turn loop ∷ k) = let rest = behind_weight k in omega (arith, rest)
 behind_weight (Again loop ∷ k) = omega arith
 behind_weight (Fall result ∷ k) = omega arith
 behind_weight (task ∷ k) = omega arith
@@ -126,12 +127,13 @@ behind_weight (task ∷ k) = omega arith
 end_weight : (k : List Task) → weight (end_of_body k) ≤ weight k
 end_weight [] = omega arith
 end_weight (Do item ∷ k) = let rest = end_weight k in omega (arith, rest)
+end_weight (Turn loop ∷ k) = let rest = end_weight k in omega (arith, rest)
 end_weight (Again loop ∷ k) = omega arith
 end_weight (Fall result ∷ k) = omega arith
 end_weight (task ∷ k) = omega arith
 
-statement_lowers : (item : Stmt) (k : List Task) (s : State) → Lowers (8 * statement_size item + weight k) (statement_step item k s)
-unfolding statement_size
+statement_lowers : (item : Stmt) (k : List Task) (s : State) → Lowers (8 * statement_measure item + weight k) (statement_step item k s)
+unfolding statement_measure
 statement_lowers (stmt.Block' _ items) k s = let rest = all_weight items k in omega (arith, rest)
 statement_lowers (stmt.Variable v) k s = variable_weight v.storage v.initializer k
 statement_lowers stmt.Empty k s = omega arith
@@ -160,17 +162,17 @@ held_lowers : (n : ℕ) (s : State) (found : Result Word TrapKind) (k : List Tas
 held_lowers n s (Ok value) k less = less
 held_lowers n s (Err kind) k less = omega (arith, less)
 
-also_lowers : (operator : LogicalOperator) (e : Expr) (b : Bool) (k : List Task) (s : State) → Lowers (2 + 8 * size e + weight k) (also_step operator e b k s)
+also_lowers : (operator : LogicalOperator) (e : Expr) (b : Bool) (k : List Task) (s : State) → Lowers (2 + 8 * measure e + weight k) (also_step operator e b k s)
 also_lowers logical.And e true k s = omega arith
 also_lowers logical.And e false k s = omega arith
 also_lowers logical.Or e true k s = omega arith
 also_lowers logical.Or e false k s = omega arith
 
-pick_weight : (b : Bool) (x y : Expr) → size (if b then x else y) ≤ size x + size y
+pick_weight : (b : Bool) (x y : Expr) → measure (if b then x else y) ≤ measure x + measure y
 pick_weight true x y = omega arith
 pick_weight false x y = omega arith
 
-branch_weight : {n : _} (b : Bool) (item : Stmt) (other : Row_of-Stmt n) (k : List Task) → weight (if b then Do item ∷ k else all_tasks other k) < 1 + 8 * (statement_size item + statement_sizes other) + weight k
+branch_weight : {n : _} (b : Bool) (item : Stmt) (other : Row_of-Stmt n) (k : List Task) → weight (if b then Do item ∷ k else all_tasks other k) < 1 + 8 * (statement_measure item + statement_measures other) + weight k
 branch_weight true item other k = omega arith
 branch_weight false item other k = let rest = all_weight other k in omega (arith, rest)
 
@@ -178,12 +180,12 @@ puts_lower : (n : ℕ) (u : UnitParts) (s : State) (offset : ℕ) (value : Word)
 puts_lower n u s offset value k some =
     access_lowers n s (accessed (DataPointer (local_address u s offset))) (λ at. does (Store at (packed value)) (record s { todo = k })) some (λ at e a b. (refl, refl))
 
-fill_lowers : (u : UnitParts) (offset : ℕ) (stored : List Stored) (k : List Task) (s : State) → Lowers (8 * stored_size stored + weight k) (fill_step u offset stored k s)
+fill_lowers : (u : UnitParts) (offset : ℕ) (stored : List Stored) (k : List Task) (s : State) → Lowers (8 * stored_measure stored + weight k) (fill_step u offset stored k s)
 fill_lowers u offset [] k s = omega arith
 fill_lowers u offset (StoredValue e ∷ stored) k s = omega arith
-fill_lowers u offset (Byte byte ∷ stored) k s = puts_lower (8 * (1 + stored_size stored) + weight k) u s offset (number byte) (Now (Fill (suc offset) stored) ∷ k) (omega arith)
-fill_lowers u offset (StoredZero ∷ stored) k s = puts_lower (8 * (1 + stored_size stored) + weight k) u s offset Zero (Now (Fill (suc offset) stored) ∷ k) (omega arith)
-fill_lowers u offset (StoredUndefined ∷ stored) k s = puts_lower (8 * (1 + stored_size stored) + weight k) u s offset Undefined (Now (Fill (suc offset) stored) ∷ k) (omega arith)
+fill_lowers u offset (Byte byte ∷ stored) k s = puts_lower (8 * (1 + stored_measure stored) + weight k) u s offset (number byte) (Now (Fill (suc offset) stored) ∷ k) (omega arith)
+fill_lowers u offset (StoredZero ∷ stored) k s = puts_lower (8 * (1 + stored_measure stored) + weight k) u s offset Zero (Now (Fill (suc offset) stored) ∷ k) (omega arith)
+fill_lowers u offset (StoredUndefined ∷ stored) k s = puts_lower (8 * (1 + stored_measure stored) + weight k) u s offset Undefined (Now (Fill (suc offset) stored) ∷ k) (omega arith)
 
 body_lowers : (n : ℕ) (s : State) (function site : ℕ) (info : FunctionInfo) (body : Option Body) (more : ℕ) (k : List Task) → 0 < n → Lowers n (enters_body s function site info body more k)
 body_lowers n s function site info None more k some = some

@@ -30,7 +30,7 @@ use Rattle.core_unit.specs.declared.words.Word.{Word}
 use Rattle.core_unit.specs.declared.words.Word.TheVariants.{Zero, Undefined, DataPointer, FunctionPointer, Mutex, Live, Number}
 use Rattle.eff_types.specs.Types.{is_void}
 use Rattle.eff_types.specs.declared.types.CType.{CType}
-use Rattle.mcode.specs.Memory.{halt, held_limit}
+use Rattle.mcode.specs.Memory.{halt, held_limit, IsInTable}
 use Rattle.mcode.specs.Stages.{Staged, Onto, Again as Retries, Gives, Traps, Exits, Halts, held_at, at_found, through, takes_block, frees, creates, gives_absolute, row_begins, begins_by, call_begins, stage_asks, stage_after, frees_block, joined, locked, read_text}
 use Rattle.mcode.specs.Steps.{Step, Quiet, Makes, Ends, is_event, asks, does, asked, answered, settle, unless_quiet}
 use Rattle.mcode.specs.Words.{unpacked, loaded, written}
@@ -40,7 +40,7 @@ use Rattle.mcode.specs.declared.events.Finish.{Finish}
 use Rattle.mcode.specs.declared.events.Finish.TheVariants.{Exited, Halted}
 use Rattle.mcode.specs.declared.stages.Stage.{Stage}
 use Rattle.mcode.specs.declared.stages.Stage.TheVariants.{TakeBlock, ReturnBlock, MarkLive, ReadHeader, MarkFreed, CreateThread, TellThread, TryJoin, AwaitJoin, ReadResult, WriteResult, TryLock, AwaitLock, Unlock, ReadText, WriteText, EndText, WriteByte}
-use Rattle.src_model.specs.Laws.{IsInTable, Comes, begins, goes_on, halts}
+use Rattle.src_model.specs.Laws.{Comes, begins, goes_on, halts}
 use Rattle.src_model.specs.Rules.{before, goes, fails, arguments, call_tasks, value_step, address_step, statement_step, all_tasks, list_tasks, optional_tasks, variable_tasks, behind_loop, end_of_body, local_address}
 use Rattle.src_model.specs.Runs.{is_ending}
 use Rattle.src_model.specs.Source.{accesses_at, accesses, puts, value_of_step, count_of, is_main_in, info_on_top, is_noreturn_in, finds, finds_of_held, serve, checked, also_step, fill_step, binds, meets, function_tasks, entered, enters, enters_body, enters_through, staged, has_room, leaves, status_of, result_in, falls, turn_tasks, decided_tasks, again_tasks, part_step, task_step, steps, step, settles, next, after, start}
@@ -338,6 +338,7 @@ variable_low (ThreadLocal offset) initializer k low = low
 behind_low : (k : List Task) → AreLow k → AreLow (behind_loop k)
 behind_low [] low = tt
 behind_low (Do item ∷ k) low = behind_low k low.1
+behind_low (Turn loop ∷ k) low = behind_low k low.1
 behind_low (Again loop ∷ k) low = low.1
 behind_low (Fall result ∷ k) low = low
 behind_low (task ∷ k) low = tt
@@ -345,6 +346,7 @@ behind_low (task ∷ k) low = tt
 end_low : (k : List Task) → AreLow k → AreLow (end_of_body k)
 end_low [] low = tt
 end_low (Do item ∷ k) low = end_low k low.1
+end_low (Turn loop ∷ k) low = end_low k low.1
 end_low (Again loop ∷ k) low = low
 end_low (Fall result ∷ k) low = low
 end_low (task ∷ k) low = tt

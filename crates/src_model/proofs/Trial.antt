@@ -12,7 +12,7 @@ use Rattle.eff_types.specs.Comparison.{likeness_of, each_likeness, signature_lik
 use Rattle.eff_types.specs.Types.{points_to, same}
 use Rattle.eff_types.specs.declared.types.CType.TheBlock.{hidden-the_row-CType-0, shape-the_row-CType-0, hidden-the_row-CType-1, shape-the_row-CType-1}
 use Rattle.mcode.specs.Words.{unpacked}
-use Rattle.src_model.specs.Weights.{size, statement_size}
+use Rattle.src_model.specs.Weights.{measure, statement_measure}
 use Rattle.ctx_set.specs.Prefixes.{prefixes, distinct, has}
 use Rattle.ctx_set.specs.declared.steps.StackStep.{StackStep}
 use Rattle.std.specs.Prelude.{flat_map}
@@ -56,7 +56,7 @@ use Rattle.src_model.specs.Tasks.{State}
 
 -- what trials compute with
 unfoldable pub computing : ℕ
-unfolding size statement_size stores type_of callee_of row_type points_to likeness_of each_likeness signature_likeness_of same packed unpacked hidden hidden-the_row-CType-0 shape-the_row-CType-0 hidden-the_row-CType-1 shape-the_row-CType-1 hidden-the_row-Expr-0 shape-the_row-Expr-0 hidden-the_row-Place-1 shape-the_row-Place-1 hidden-the_row-Expr-2 shape-the_row-Expr-2 hidden-the_row-Stmt-0 shape-the_row-Stmt-0 hidden-the_row-Stmt-1 shape-the_row-Stmt-1 hidden-the_row-Initializer-0 shape-the_row-Initializer-0
+unfolding measure statement_measure stores type_of callee_of row_type points_to likeness_of each_likeness signature_likeness_of same packed unpacked hidden hidden-the_row-CType-0 shape-the_row-CType-0 hidden-the_row-CType-1 shape-the_row-CType-1 hidden-the_row-Expr-0 shape-the_row-Expr-0 hidden-the_row-Place-1 shape-the_row-Place-1 hidden-the_row-Expr-2 shape-the_row-Expr-2 hidden-the_row-Stmt-0 shape-the_row-Stmt-0 hidden-the_row-Stmt-1 shape-the_row-Stmt-1 hidden-the_row-Initializer-0 shape-the_row-Initializer-0
 computing = 0
 
 -- effects

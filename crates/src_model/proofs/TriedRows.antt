@@ -1,8 +1,9 @@
 -- Each library function by a small unit. The heap begins at 327681 where there are no static words; the word of a data pointer is its address above
 -- 3 * 2^60, that of a block's header its words above 6 * 2^60, of a freed one above 7 * 2^60, of a mutex its thread above 5 * 2^60.
-use Rattle.std.proofs.Common.{◌≡◌, refl, ℕ, ◌+◌, ◌*◌, ◌^◌, List, [], ◌∷◌, ◌++◌, pos, negsuc}
+use Rattle.std.proofs.Common.{◌≡◌, refl, ℕ, ◌+◌, ◌*◌, ◌^◌, List, [], ◌∷◌, ◌++◌, map, Some, codes, pos, negsuc, slice_get}
+use Rattle.std.specs.Option.{option_map}
 use Rattle.arithmetic.specs.declared.traps.TrapKind.TheVariants.{NullAccess, BadAccess, BadWord, Overflow, NullCall, BadFree, BadUnlock}
-use Rattle.core_unit.specs.Library.{takes, void_pointer, thread_start as thread_start_type}
+use Rattle.core_unit.specs.Library.{rows, takes, void_pointer, thread_start as thread_start_type}
 use Rattle.core_unit.specs.Shapes.{pointer_to}
 use Rattle.core_unit.specs.declared.body.Stmt.{Stmt}
 use Rattle.core_unit.specs.declared.expressions.Expr.{Expr}
@@ -21,6 +22,7 @@ use Rattle.mcode.specs.Stages.{stage_after, Gives, Traps, Halts}
 use Rattle.mcode.specs.declared.stages.Stage.TheVariants.{CreateThread, ReadResult, MarkFreed, AwaitLock, Unlock, WriteText}
 use Rattle.mcode.specs.declared.events.Turned.TheVariants.{Went, FailedTry}
 use Rattle.arithmetic.specs.declared.traps.TrapKind.{TrapKind}
+use Rattle.src_model.specs.Traces.{disable_row, enable_row}
 use Rattle.src_model.proofs.Trial.{definition, unit, main_of, int, local, static, value, named, library_call, run, returns, variable_is, number_word, cell, events, events_from, never, turns, computing}
 
 abbrev unsigned : ℕ → Expr
@@ -250,6 +252,11 @@ abs = refl
 abs_of_the_least : events 20 (with 0 (run (library_call 1 10 (int 2147483648 ∷ [])) ∷ [])) 0 ≡ trapped Overflow (Load (2 ^ 20) ∷ Reach 4106 1 ∷ [])
 unfolding computing
 abs_of_the_least = refl
+
+-- The rows that a trace counts are those of the functions that disable and enable the detector.
+detector_rows : map (λ row. option_map (λ r. r.name) (slice_get rows row)) (disable_row ∷ enable_row ∷ [])
+    ≡ Some (codes "__rtsan_disable") ∷ Some (codes "__rtsan_enable") ∷ []
+detector_rows = refl
 
 -- __rtsan_disable(); __rtsan_enable();
 disable_and_enable : events 20 (with 0 (run (library_call 1 11 []) ∷ run (library_call 2 12 []) ∷ [])) 0

@@ -17,11 +17,11 @@ use Rattle.src_model.specs.declared.runs.Made.{Made}
 abbrev pub is_noreturn : UnitParts → ℕ → Bool
 is_noreturn u function = option_map_or (λ f. f.noreturn) (slice_get u.functions function) false
 
--- some frame's function has the level
+-- some frame's function has this level or one above
 abbrev pub is_at_level : UnitParts → Level → List StackStep → Bool
 is_at_level u level frames = list_any (λ step. has_level u level step.target) frames
 
--- A frame of a function that never returns stands above the lowest frame of the level: one of the level stands below it. The innermost stands first.
+-- A frame of a function that never returns stands above the lowest frame whose function has this level or one above. The innermost stands first.
 abbrev pub is_excused : UnitParts → Level → List StackStep → Bool
 is_excused u level [] = false
 is_excused u level (step ∷ below) = (is_noreturn u step.target && is_at_level u level below) || is_excused u level below

@@ -1,8 +1,8 @@
 -- When code is compiled from a unit: event by event, a thread of the code does what the source thread does (this project's own rule).
-use Rattle.std.specs.Prelude.{◌≡◌, ℕ, Bool, true, false, List, [], ◌∷◌, Some}
+use Rattle.std.specs.Prelude.{◌≡◌, ℕ, List, [], ◌∷◌, Some}
 use Rattle.core_unit.specs.declared.tables.UnitParts.{UnitParts}
 use Rattle.mcode.specs.Machine.{Program, Machine, machine_next, machine_after, machine_turned, machine_start, machine_cut}
-use Rattle.src_model.specs.Runs.{Setting, Start, Thread, moved, moved_to, started, is_cut, function_from}
+use Rattle.src_model.specs.Runs.{Setting, Start, Thread, moved, moved_to, started, function_from}
 use Rattle.src_model.specs.Source.{next, after, turned, cut}
 use Rattle.src_model.specs.Tasks.{State}
 use Rattle.src_model.specs.declared.runs.Made.{Made}
@@ -38,15 +38,6 @@ pub record Behaves (u : UnitParts) (c : Program) : Type 0 where
 pub record IsCompiled (u : UnitParts) (name : List ℕ) (c : Program) : Type 0 where
   pub behaves : Behaves u c
   pub entry : function_from 0 u.functions name ≡ Some c.entry
-
--- what became of a thread, by its trace
-abbrev pub cut_move : Bool → List Move → List Move
-cut_move true moves = Cuts ∷ moves
-cut_move false moves = moves
-
-abbrev pub moves_of : Setting → List Made → List Move
-moves_of w [] = []
-moves_of w (made ∷ before) = cut_move (is_cut w before made.ask) (Answers made.word ∷ moves_of w before)
 
 -- the machine of a thread after a trace
 abbrev pub machine_after_trace : Setting → Program → Start → List Made → Machine

@@ -1,27 +1,14 @@
 -- Laws of the source thread: it is deterministic, it ignores other words than answers, and its words stand in the table; and of the scheduled run: it
 -- is a run.
-use Rattle.std.specs.Prelude.{◌≡◌, ℕ, ◌+◌, ◌^◌, ◌<◌, true, false, List, [], ◌∷◌, is_some}
+use Rattle.std.specs.Prelude.{◌≡◌, ℕ, ◌<◌, true, false, List, [], ◌∷◌, is_some}
 use Rattle.core_unit.specs.declared.tables.UnitParts.{UnitParts}
+use Rattle.mcode.specs.Memory.{IsInTable}
 use Rattle.mcode.specs.Steps.{is_quiet, is_event, is_answered}
 use Rattle.mcode.specs.declared.events.Ask.{Ask}
-use Rattle.mcode.specs.declared.events.Ask.TheVariants.{Load, Store, Exchange, FetchAdd, FetchSub}
 use Rattle.src_model.specs.Runs.{Setting, entry_of, IsRun}
 use Rattle.src_model.specs.Scheduled.{is_over, scheduled, scheduled_threads}
 use Rattle.src_model.specs.Source.{settles, next, after, turned, start, cut}
 use Rattle.src_model.specs.Tasks.{State}
-
--- so many words has memory: those of objects up to the halt word, and the words of threads behind it
-abbrev pub table_words : ℕ
-table_words = 2 ^ 20 + 192
-
--- the address of an event, if it has one, is one of the table
-abbrev pub IsInTable : Ask → Type 0
-IsInTable (Load at) = at < table_words
-IsInTable (Store at word) = at < table_words
-IsInTable (Exchange at old new) = at < table_words
-IsInTable (FetchAdd at n) = at < table_words
-IsInTable (FetchSub at n) = at < table_words
-IsInTable _ = Unit {0}
 
 -- The states that one of 64 threads comes to: its start, what follows the answer to an event, and where it is cut short.
 pub data Comes (u : UnitParts) : State → Type 0 where

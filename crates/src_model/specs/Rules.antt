@@ -147,15 +147,18 @@ abbrev pub variable_tasks : Storage → Initializer → List Task → List Task
 variable_tasks (Automatic offset) initializer k = Now (Fill offset (stores initializer)) ∷ k
 variable_tasks _ initializer k = k
 
--- what `break` and `continue` come to: what stands behind the loop, and the end of its body (C17 6.8.6)
+-- what `break` and `continue` come to: what stands behind the loop, and the end of its body (C17 6.8.6); a `for` whose first turn hasn't begun is
+-- passed over as other statements are
 abbrev pub behind_loop : List Task → List Task
 behind_loop (Do item ∷ k) = behind_loop k
+behind_loop (Turn loop ∷ k) = behind_loop k
 behind_loop (Again loop ∷ k) = k
 behind_loop (Fall result ∷ k) = Fall result ∷ k
 behind_loop _ = []
 
 abbrev pub end_of_body : List Task → List Task
 end_of_body (Do item ∷ k) = end_of_body k
+end_of_body (Turn loop ∷ k) = end_of_body k
 end_of_body (Again loop ∷ k) = Again loop ∷ k
 end_of_body (Fall result ∷ k) = Fall result ∷ k
 end_of_body _ = []

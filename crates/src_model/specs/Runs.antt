@@ -144,8 +144,9 @@ is_ending (Trap kind) = true
 is_ending (Store at word) = nat_le halt at
 is_ending ask = false
 
--- The ending of a thread with this next event, which made so many events, the last of them so many failed tries in a row: its finish; Waiting at the
--- wait limit; Stopped at the event limit, where no other ending has begun. The events of an ending aren't counted against that.
+-- The ending of a thread with this next event, which made so many events and has this many failed tries in a row behind it, with loads of the halt
+-- word between them: its finish; Waiting at the wait limit; Stopped at the event limit, where no other ending has begun. The events of an ending
+-- aren't counted against that.
 abbrev pub ending : Options → Ask → (made tries : ℕ) → Option End
 ending options (Over finish) made tries = Some (end_by finish)
 ending options ask made tries =
@@ -230,7 +231,7 @@ pub record IsStarted (threads : List Thread) (c : Creation) : Type 0 where
   pub function : thread.begin.function ≡ c.function
   pub arguments : thread.begin.arguments ≡ c.argument ∷ []
 
--- The threads have the numbers from 0 on. Each but the first was started once, and none could not be started while there were fewer than 64.
+-- The threads have the numbers from 0 on. Each but the first was started once, and a Create was answered with none only where there are 64 threads.
 pub record AreThreads (w : Setting) (threads : List Thread) : Type 0 where
   pub few : length threads ≤ 64
   pub numbers : (n : ℕ) (t : Thread) → slice_get threads n ≡ Some t → t.begin.number ≡ n

@@ -148,8 +148,8 @@ first_thread w None = []
 abbrev pub opened : {M : Type 0} → Setting → M → Running M
 opened w words = record { words = words; asked = []; threads = first_thread w (entry_of w) }
 
--- First the threads of the schedule, then rounds. A thread makes at most two events beyond the event limit, and another one that it makes is
--- begun before its limit; so of 64 threads, each made by the one before at the latest, all have ended then.
+-- First the threads of the schedule, then rounds until all threads have ended. So many rounds are enough: until then some thread makes an event in
+-- each, a thread makes at most two events more than the event limit, and there are at most 64 threads.
 abbrev pub scheduled_over : {M : Type 0} → Shared M → Setting → (schedule : List ℕ) → M → Running M
 scheduled_over m w schedule words = rounds m w (64 * (w.options.events + 4)) (turns m w schedule (opened w words))
 

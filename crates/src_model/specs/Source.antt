@@ -18,8 +18,6 @@ use Rattle.core_unit.specs.declared.expressions.Expr.{Expr}
 use Rattle.core_unit.specs.declared.operators.LogicalOperator.{LogicalOperator}
 use Rattle.core_unit.specs.declared.operators.LogicalOperator.TheVariants as logical
 use Rattle.core_unit.specs.declared.operators.Sign.TheVariants.{Signed}
-use Rattle.core_unit.specs.declared.operators.StepValue.{StepValue}
-use Rattle.core_unit.specs.declared.operators.StepValue.TheVariants.{Prefix, Postfix}
 use Rattle.core_unit.specs.declared.tables.FunctionInfo.{FunctionInfo}
 use Rattle.core_unit.specs.declared.tables.UnitParts.{UnitParts}
 use Rattle.core_unit.specs.declared.words.Word.{Word}
@@ -27,6 +25,7 @@ use Rattle.core_unit.specs.declared.words.Word.TheVariants.{Zero, Undefined, Num
 use Rattle.eff_types.specs.Types.{is_number, is_void}
 use Rattle.eff_types.specs.declared.types.CType.{CType}
 use Rattle.eff_types.specs.declared.types.FnType.{FnType}
+pub use Rattle.mcode.specs.Machine.{value_of_step}
 use Rattle.mcode.specs.Memory.{halt, done_of, result_of, frame_limit, stack_words, held_limit}
 use Rattle.mcode.specs.Stages.{Staged, Onto, Again as Retries, Gives, Traps, Exits, Halts, held_at, call_begins, stage_asks, stage_after, turned_to}
 use Rattle.mcode.specs.Steps.{Step, Quiet, Makes, Ends, asks, does, settle, asked, answered, turned_by}
@@ -71,11 +70,6 @@ checked s word k = record s { todo = if nat_eq word 0 then k else Finished Halte
 abbrev pub holds : State → List Task → Step State
 holds s k = if nat_lt (length s.held) held_limit then Quiet (record s { todo = k; held = s.value ∷ s.held }) else fails s StackOverflow
 
--- the value of `++` or `--`, of the new value and the old one (C17 6.5.2.4, 6.5.3.1)
-abbrev pub value_of_step : StepValue → (new old : Word) → Word
-value_of_step Prefix new old = new
-value_of_step Postfix new old = old
-
 -- what `&&` and `||` do after their left operand: it decides, or the right one does (C17 6.5.13, 6.5.14)
 abbrev pub also_step : LogicalOperator → Expr → Bool → List Task → State → Step State
 also_step logical.And e true k s = goes s (before (Value e ∷ Truth ∷ []) k)
@@ -110,7 +104,8 @@ abbrev pub meets : Bool → (function site : ℕ) → List Task → List Task
 meets true function site k = Now (Meet function site) ∷ k
 meets false function site k = k
 
--- What is to be done in a function: its parameters are stored, and then so many values are held no longer; its body.
+-- What is to be done in a function: it is reached, if it is blocking; its parameters are stored, and then so many values are held no longer; its
+-- body.
 abbrev pub function_tasks : (function site : ℕ) → FunctionInfo → Body → (held : ℕ) → List Task
 function_tasks function site info body held =
     meets info.kind.effects.no_block_inference function site
@@ -145,7 +140,7 @@ abbrev pub enters_through : UnitParts → State → Word → (site : ℕ) → Li
 enters_through u s (FunctionPointer function level) site k = enters s function site (slice_get u.functions function) 1 k
 enters_through u s _ site k = fails s NullCall
 
--- how a library call goes on, whose value is of this type
+-- how a library call goes on, whose value is of this type, which soundness alone reads
 abbrev pub staged : State → (result : CType) → Staged → List Task → State
 staged s result (Onto stage) k = record s { todo = Now (In stage result) ∷ k }
 staged s result (Retries stage) k = record s { todo = Now (In stage result) ∷ k }

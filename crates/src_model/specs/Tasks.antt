@@ -15,7 +15,8 @@ use Rattle.mcode.specs.declared.events.Finish.{Finish}
 use Rattle.mcode.specs.declared.stages.Stage.{Stage}
 
 -- A part of a statement or a call. It works on the value that was found last, and on the values that are held, the latest first. Types are the
--- static ones of what a part takes or gives.
+-- static ones of what a part takes or gives; those in `Retype`, `Apply`, `Advance`, `Shift` and `In` change nothing that a thread does, and are read
+-- by soundness alone.
 pub data Part : Type 0 where
   -- find the value of an expression
   Value : Expr → Part

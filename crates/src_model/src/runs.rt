@@ -19,7 +19,7 @@ pub enum End {
     Trapped(TrapKind),
     /// It saw that all threads are to halt, or it made its first report under `halt_on_error`.
     Halted,
-    /// It made as many events as the event limit says.
+    /// It made as many events as the event limit says, and no other ending has begun.
     Stopped,
     /// It made as many failed tries in a row, of one call, as the wait limit says.
     Waiting,
@@ -36,6 +36,6 @@ pub struct Options {
     pub print_stats: bool,
     /// How many events a thread makes at most, those of its ending aside.
     pub events: u32,
-    /// How many failed tries in a row a thread makes of one call.
+    /// How many failed tries in a row a thread makes of one call at most: it ends `Waiting` then.
     pub wait_limit: u32,
 }
