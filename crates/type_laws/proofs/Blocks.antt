@@ -29,12 +29,14 @@ use Rattle.type_rules.specs.declared.durations.Duration.{Duration}
 use Rattle.type_rules.specs.declared.durations.Duration.TheVariants.{Automatic as IsAutomatic, Static as IsStatic, ThreadLocal as IsThreadLocal}
 use Rattle.type_rules.specs.declared.names.Entity.{Entity}
 use Rattle.type_rules.specs.declared.names.Entity.TheVariants.{Variable}
-use Rattle.type_rules.specs.declared.notes.Initial.{Initial}
 use Rattle.type_laws.proofs.Converted.{within_tables}
 use Rattle.type_laws.proofs.Declarators.{or_first, or_second, first_of_three, last_of_three, complete_object}
 use Rattle.type_laws.proofs.Declared.{MakesFormed}
 use Rattle.type_laws.proofs.Each.{Each}
 use Rattle.type_laws.proofs.Formed.{IsFormed, formed_stays, words_stay}
+use Rattle.type_laws.proofs.Each.{each_joined}
+use Rattle.type_laws.proofs.Valued.{IsValue}
+use Rattle.type_laws.proofs.Values.{initializer_valued}
 use Rattle.type_laws.proofs.Growing.{GrowsUnder, Grows, NoAutos, IsSmall, grows_of_made, grows_then, grows_as, grows_same}
 use Rattle.type_laws.proofs.Initializing.{IsSolid, solid_stays, Fills, Anything, initialized_keeps}
 use Rattle.type_laws.proofs.Left.{Left, Leaves, then_left, gives_left, left_as, left_of}
@@ -44,9 +46,13 @@ use Rattle.type_laws.proofs.Strides.{has_words}
 use Rattle.type_laws.proofs.Triples.{Lawful, Leads, Made, Always}
 use Rattle.type_laws.proofs.Types.{is_object}
 
+-- the words of a type are told
+abbrev AreTold : CType → Tables → Type 0
+AreTold t u = words_of u.structures t < 2 ^ 32 - 1
+
 -- an initializer of a type, where its words are told
 abbrev InitFits : CType → Initializer → Tables → Type 0
-InitFits t i u = words_of u.structures t < 2 ^ 32 - 1 → IsInitializer u t i
+InitFits t i u = AreTold t u → IsInitializer u t i
 
 absent_fits : (u : Tables) (t : CType) (words : ℕ) → words ≡ words_of u.structures t → IsInitializer u t (init.Absent words)
 unfolding IsInitializer
@@ -54,29 +60,38 @@ absent_fits u t words e = e
 
 -- what an initializer leaves: names of the innermost scope keep their meaning
 record Initialized (t : CType) (s : Seen) (i : Initializer) (v : Seen) : Type 0 where
-  grows : GrowsUnder Always NoAutos (InitFits t i) s v
+  grows : GrowsUnder (AreTold t) NoAutos (InitFits t i) s v
   here : (name : ℕ) (e : Entity) → found_here s.scopes name ≡ Some e → found_here v.scopes name ≡ Some e
 
 initialized_left : (fixed : Bool) (t : CType) (i : Init) (s : Seen) → Lawful s → IsSolid s.structures t → Left (Initialized t s) s (initialized fixed t i s)
 initialized_left fixed t i s lawful solid =
     left_as (λ a v. Made Always Anything (Fills t) s a v) (Initialized t s) s (initialized fixed t i s)
     (left_of Always Anything (Fills t) s (initialized fixed t i s) (initialized_keeps i fixed t s lawful solid)) (λ a v h. record {
-      grows = grows_as Always Always NoAutos NoAutos (Fills t a) (InitFits t a) s v (λ u p. p) (λ u leads. refl) (λ u leads small p fills few. (fills few).0)
+      grows = grows_as (AreTold t) Always NoAutos NoAutos (Fills t a) (InitFits t a) s v (λ u leads small p. tt) (λ u leads. refl) (λ u leads small p fills few. (fills few).0)
           (grows_of_made Anything (Fills t) s a v h.known);
       here = h.known.here;
     })
 
--- what words hold at first is nothing to what is typed
-valued : (t : CType) (s : Seen) (i : Initializer) (v : Seen) (storage : Storage) (values : List Initial) → Leaves (Initialized t s) s i v
-    → Left (Initialized t s) s (and_then (initially storage values v) (λ _ x. Good i x))
+-- what words hold at first
+valued : (t : CType) (s : Seen) (i : Initializer) (v : Seen) (storage : Storage) → Leaves (Initialized t s) s i v
+    → Left (Initialized t s) s (and_then (initially storage (initial_values (where_in storage) i) v) (λ _ x. Good i x))
 unfolding and_then
-valued t s i v (Automatic offset) values h = record { holds = h }
-valued t s i v (Static address) values h = record {
+valued t s i v (Automatic offset) h = record { holds = h }
+valued t s i v (Static address) h = record {
   holds = record {
     lawful = h.lawful;
     stay = h.stay;
     known = record {
-      grows = record { steady = h.known.grows.steady; few = h.known.grows.few; laid = h.known.grows.laid; tables = h.known.grows.tables };
+      grows = record {
+        steady = h.known.grows.steady;
+        few = h.known.grows.few;
+        laid = h.known.grows.laid;
+        tables = h.known.grows.tables;
+        values = λ u leads small knows standing told old.
+            let before = h.known.grows.values u leads small knows standing told old in
+            let more = initializer_valued u t address i ((h.known.grows.tables u leads small knows standing told).1 told) in
+            (each_joined (λ x. IsValue u x.word) v.static_values _ before.0 more, before.1);
+      };
       here = h.known.here;
     };
     outer = h.outer;
@@ -84,12 +99,21 @@ valued t s i v (Static address) values h = record {
     begun = h.begun;
   };
 }
-valued t s i v (ThreadLocal offset) values h = record {
+valued t s i v (ThreadLocal offset) h = record {
   holds = record {
     lawful = h.lawful;
     stay = h.stay;
     known = record {
-      grows = record { steady = h.known.grows.steady; few = h.known.grows.few; laid = h.known.grows.laid; tables = h.known.grows.tables };
+      grows = record {
+        steady = h.known.grows.steady;
+        few = h.known.grows.few;
+        laid = h.known.grows.laid;
+        tables = h.known.grows.tables;
+        values = λ u leads small knows standing told old.
+            let before = h.known.grows.values u leads small knows standing told old in
+            let more = initializer_valued u t offset i ((h.known.grows.tables u leads small knows standing told).1 told) in
+            (before.0, each_joined (λ x. IsValue u x.word) v.thread_values _ before.1 more);
+      };
       here = h.known.here;
     };
     outer = h.outer;
@@ -102,7 +126,7 @@ valued t s i v (ThreadLocal offset) values h = record {
 valued_left : (t : CType) (s : Seen) (storage : Storage) (r : Read Initializer) → Left (Initialized t s) s r
     → Left (Initialized t s) s (and_then r (λ i v. and_then (initially storage (initial_values (where_in storage) i) v) (λ _ x. Good i x)))
 unfolding and_then
-valued_left t s storage (Good i v) h = valued t s i v storage (initial_values (where_in storage) i) h.holds
+valued_left t s storage (Good i v) h = valued t s i v storage h.holds
 valued_left t s storage (Bad number place) h = record { holds = tt }
 
 initializer_left : (duration : Duration) (t : CType) (given : Option Init) (storage : Storage) (words : ℕ) (s : Seen) → Lawful s → IsSolid s.structures t
@@ -114,6 +138,7 @@ initializer_left duration t None storage words s lawful solid long =
         few = λ few. few;
         laid = λ u leads few. refl;
         tables = λ u leads small knows standing p. (knows, λ few. absent_fits u t words (long u leads));
+        values = λ u leads small knows standing p v. v;
       };
       here = λ name e is. is;
     })
@@ -142,7 +167,7 @@ pub record DeclaresVariables (s : Seen) (items : List Stmt) (t : Seen) : Type 0 
   pub declares : Declares s items t
   pub variables : Each (λ x. is_variable x ≡ true) items
 
-kept_small : (storage : Storage) (words : ℕ) (u : Tables) → IsSmall u → IsThere storage words u → words < 2 ^ 32 - 1
+pub kept_small : (storage : Storage) (words : ℕ) (u : Tables) → IsSmall u → IsThere storage words u → words < 2 ^ 32 - 1
 kept_small (Automatic offset) words u small there = subst (λ n. n < 2 ^ 32 - 1) there.long (small.frame there.index there.object there.known)
 kept_small (Static address) words u small there = subst (λ n. n < 2 ^ 32 - 1) there.long (small.statics there.index there.object there.known)
 kept_small (ThreadLocal offset) words u small there = subst (λ n. n < 2 ^ 32 - 1) there.long (small.thread_locals there.index there.object there.known)
@@ -162,17 +187,18 @@ module _ (s : Seen) (lawful : Lawful s) (place number : ℕ) (duration : Duratio
   -- the steps together
   whole_grows : (storage : Storage) (w : Seen) (i : Initializer) (v x : Seen) → ((u : Tables) → Leads w u → Leads s u) → ((u : Tables) → Leads v u → Leads w u)
       → ((u : Tables) → Leads x u → Leads v u) → GrowsUnder Always (λ structures. automatic storage words) (IsThere storage words) s w
-      → GrowsUnder Always NoAutos (InitFits t i) w v → GrowsUnder (IsThere storage words) NoAutos (λ u. Unit {0}) v x
+      → GrowsUnder (AreTold t) NoAutos (InitFits t i) w v → GrowsUnder (IsThere storage words) NoAutos (λ u. Unit {0}) v x
       → Declares s (stmt.Variable (variable storage i) ∷ []) x
   whole_grows storage w i v x to_s to_w to_v first second third =
       let kept : List StructInfo → List Object = λ structures. automatic storage words in
-      let second_under = grows_as (λ u. Always u × IsThere storage words u) Always NoAutos NoAutos (InitFits t i) (InitFits t i) w v (λ u p. tt) (λ u leads. refl) (λ u leads small p q. q) second in
+      let second_under = grows_as (λ u. Always u × IsThere storage words u) (AreTold t) NoAutos NoAutos (InitFits t i) (InitFits t i) w v
+      (λ u leads small p. subst (λ n. n < 2 ^ 32 - 1) (long_at u (to_s u (to_w u leads))) (kept_small storage words u small p.1)) (λ u leads. refl) (λ u leads small p q. q) second in
       let two = grows_then Always kept NoAutos (IsThere storage words) (InitFits t i) s w v to_w first second_under in
-      let third_under = grows_as (λ u. Always u × (IsThere storage words u × InitFits t i u)) (IsThere storage words) NoAutos NoAutos (λ u. Unit {0}) (λ u. Unit {0}) v x (λ u p. p.1.0)
+      let third_under = grows_as (λ u. Always u × (IsThere storage words u × InitFits t i u)) (IsThere storage words) NoAutos NoAutos (λ u. Unit {0}) (λ u. Unit {0}) v x (λ u leads small p. p.1.0)
       (λ u leads. refl) (λ u leads small p q. q) third in
       let three = grows_then Always (λ structures. kept structures ++ []) NoAutos (λ u. IsThere storage words u × InitFits t i u) (λ u. Unit {0}) s v x to_v two third_under in
       grows_as Always Always (λ structures. (kept structures ++ []) ++ []) (λ structures. list_automatics structures (stmt.Variable (variable storage i) ∷ []))
-      (λ u. (IsThere storage words u × InitFits t i u) × Unit {0}) (AlwaysTyped (stmt.Variable (variable storage i) ∷ [])) s x (λ u p. p)
+      (λ u. (IsThere storage words u × InitFits t i u) × Unit {0}) (AlwaysTyped (stmt.Variable (variable storage i) ∷ [])) s x (λ u leads small p. p)
       (λ u leads.
       append-nil (automatic storage words ++ []) ∙ append-nil (automatic storage words) ∙ ap (automatic storage) (long_at u (to_s u (to_w u (to_v u leads))))
       ∙ sym (variable_autos u.structures (variable storage i)))

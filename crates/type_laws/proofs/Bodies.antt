@@ -1,5 +1,5 @@
 -- The body of a function: its parameters stand in the frame, and what is read in its scope is typed.
-use Rattle.std.proofs.Common.{◌≡◌, ℕ, zero, suc, ◌<◌, ◌+◌, true, false, refl, sym, ◌∙◌, ap, subst, List, [], ◌∷◌, ◌++◌, map, drop, length, slice_get, Option, Some, None, arith}
+use Rattle.std.proofs.Common.{◌≡◌, ℕ, zero, suc, ◌<◌, ◌-◌, ◌^◌, ◌+◌, true, false, refl, sym, ◌∙◌, ap, subst, List, [], ◌∷◌, ◌++◌, map, drop, length, slice_get, Option, Some, None, arith}
 use Rattle.std.specs.Prelude.{slice_set}
 use Rattle.scopes.specs.Scope.{Scope, found_here, declare}
 use Rattle.eff_types.specs.declared.types.CType.{CType}
@@ -21,10 +21,12 @@ use Rattle.type_rules.specs.declared.names.Entity.TheVariants.{Variable}
 use Rattle.type_laws.proofs.Converted.{within_tables}
 use Rattle.type_laws.proofs.Declarators.{object_of_scalar}
 use Rattle.type_laws.proofs.Declared.{IsParameter}
+use Rattle.type_laws.proofs.Definitions.{AreDefined, defined_now}
 use Rattle.type_laws.proofs.Each.{each_dropped, each_get}
 use Rattle.type_laws.proofs.Formed.{IsFormed, stay_same, stay_twice}
-use Rattle.type_laws.proofs.Functions.{in_frame, BodyHolds, IsFiled, VariableIs, Agrees, IsDeclaredAs, changed_back, changed_lawful, changed_filed}
-use Rattle.type_laws.proofs.Growing.{Standing, front_of, back_of, laid_joined}
+use Rattle.type_laws.proofs.Functions.{in_frame, BodyHolds, AreBodied, AreShort, short_changed, IsFiled, VariableIs, Agrees, IsDeclaredAs, changed_back, changed_lawful, changed_filed}
+use Rattle.type_laws.proofs.Lists.{get_set, get_inside}
+use Rattle.type_laws.proofs.Growing.{IsSmall, AreValued, calm_values, object_within, Standing, front_of, back_of, laid_joined}
 use Rattle.type_laws.proofs.Initializing.{scalar_words}
 use Rattle.type_laws.proofs.Left.{Left, Leaves, longer, then_left, gives_left, left_as}
 use Rattle.type_laws.proofs.Statements.{IsInside, Lists}
@@ -107,7 +109,7 @@ parameters_laid first (t ∷ ts) =
 
 -- a body is read
 module _ (s : Seen) (lawful : Lawful s) (filed : IsFiled s) (number : ℕ) (kind : FnType) (parameters : List Parameter) (block : Seen → Read (List Stmt))
-    (is : IsDeclaredAs kind number s) (formed : IsFormed s.structures kind.result) (each : Each (IsParameter s.structures) parameters) (same : kind.params ≡ kinds parameters)
+    (is : IsDeclaredAs kind number s) (fresh : is.info.body ≡ None) (formed : IsFormed s.structures kind.result) (each : Each (IsParameter s.structures) parameters) (same : kind.params ≡ kinds parameters)
     (block_left : (v : Seen) → IsInside kind.result v → Left (Lists kind.result false v) v (block v)) where
   abbrev opened : Seen
   opened = record s { scopes = [] ∷ s.scopes }
@@ -128,6 +130,8 @@ module _ (s : Seen) (lawful : Lawful s) (filed : IsFiled s) (number : ℕ) (kind
     tags_lawful = lawful.tags_lawful;
     ranked = lawful.ranked;
     variables_solid = lawful.variables_solid;
+    objects_known = lawful.objects_known;
+    whole_fits = lawful.whole_fits;
   }
 
   closed_lawful : (w : Seen) → Lawful w → drop 1 w.scopes ≡ s.scopes → Lawful (record w { scopes = drop 1 w.scopes })
@@ -146,16 +150,18 @@ module _ (s : Seen) (lawful : Lawful s) (filed : IsFiled s) (number : ℕ) (kind
     tags_lawful = h.tags_lawful;
     ranked = h.ranked;
     variables_solid = h.variables_solid;
+    objects_known = h.objects_known;
+    whole_fits = h.whole_fits;
   }
 
   abbrev begun_from : Seen → Seen
   begun_from v = record v { frame = length kind.params; result = kind.result }
 
-  abbrev defined : FunctionInfo → List Stmt → Seen → FunctionInfo
-  defined f items w = record f { body = Some (record { items = items }); frame_words = w.frame }
+  abbrev with_body_read : FunctionInfo → List Stmt → Seen → FunctionInfo
+  with_body_read f items w = record f { body = Some (record { items = items }); frame_words = w.frame }
 
   abbrev closed : Seen → FunctionInfo → List Stmt → Seen
-  closed w f items = record w { scopes = drop 1 w.scopes; functions = slice_set w.functions number (defined f items w); definitions = w.definitions ++ number ∷ [] }
+  closed w f items = record w { scopes = drop 1 w.scopes; functions = slice_set w.functions number (with_body_read f items w); definitions = w.definitions ++ number ∷ [] }
 
   -- the function takes the body that was read
   module _ (a : Unit {0}) (v : Seen) (opens : Leaves (λ b t. Opens 0 (kinds parameters) opened t) opened a v) (items : List Stmt) (w : Seen)
@@ -175,20 +181,22 @@ module _ (s : Seen) (lawful : Lawful s) (filed : IsFiled s) (number : ℕ) (kind
     ended_lawful : Lawful ended
     ended_lawful = closed_lawful w lists.lawful outer
 
-    declared : IsDeclared ended.structures (defined f items w)
-    declared = record { formed = (each_get (IsDeclared ended.structures) ended.functions number f ended_lawful.functions_formed known).formed }
+    declared : IsDeclared ended.structures (with_body_read f items w)
+    declared =
+        let old = each_get (IsDeclared ended.structures) ended.functions number f ended_lawful.functions_formed known in
+        record { formed = old.formed; fits = old.fits; unframed = λ none. absurd (cc) }
 
     back_to_w : (u : Tables) → Leads (closed w f items) u → Leads w u
-    back_to_w u leads = changed_back ended ended_lawful number f (defined f items w) known declared refl refl (omega arith) u leads
+    back_to_w u leads = changed_back ended ended_lawful number f (with_body_read f items w) known declared refl refl (omega arith) u leads
 
     back_to_s : (u : Tables) → Leads (closed w f items) u → Leads s u
     back_to_s u leads = opens.back u (lists.back u (back_to_w u leads))
 
-    body_holds : BodyHolds (record ended { functions = slice_set ended.functions number (defined f items w) }) f.kind.params f.kind.result w.frame (record { items = items })
+    body_holds : BodyHolds (record ended { functions = slice_set ended.functions number (with_body_read f items w) }) f.kind.params f.kind.result w.frame (record { items = items })
     body_holds few u leads =
         let body : Body = record { items = items } in
         let u' = in_frame u f.kind.params body in
-        let to_w = changed_back ended ended_lawful number f (defined f items w) known declared refl refl (omega arith) u leads in
+        let to_w = changed_back ended ended_lawful number f (with_body_read f items w) known declared refl refl (omega arith) u leads in
         let w_leads : Leads w u' = record { named = to_w.named; stay = to_w.stay; begin = to_w.begin; thread_begin = to_w.thread_begin } in
         let v_leads = lists.back u' w_leads in
         let params_are : f.kind.params ≡ kind.params = ap (λ (x : FunctionInfo). x.kind.params) info_is ∙ is.params in
@@ -205,21 +213,53 @@ module _ (s : Seen) (lawful : Lawful s) (filed : IsFiled s) (number : ℕ) (kind
               (subst (λ n. LaidOut 0 (parameter_objects 0 f.kind.params) n) (ap length params_are) (subst (λ n. LaidOut 0 (parameter_objects 0 f.kind.params) n) (omega arith) (parameters_laid 0 f.kind.params))) autos;
         }
 
+    short_before : AreShort (slice_set w.functions number (with_body_read f items w)) → AreShort s.functions
+    short_before short =
+        let old = each_get (IsDeclared ended.structures) ended.functions number f ended_lawful.functions_formed known in
+        let none = old.unframed (ap (λ (x : FunctionInfo). x.body) info_is ∙ fresh) in
+        subst AreShort functions_are (short_changed w.functions number f (with_body_read f items w) known (omega (arith, none)) short)
+
+    closed_values : AreShort (slice_set w.functions number (with_body_read f items w)) → (u : Tables) → Leads (closed w f items) u → IsSmall u → AreValued w u
+    closed_values short u leads small =
+        let body : Body = record { items = items } in
+        let u' = in_frame u f.kind.params body in
+        let few : w.frame < 2 ^ 32 - 1 = short number (with_body_read f items w) (get_set w.functions number (with_body_read f items w) (get_inside w.functions number f known)) in
+        let laid = (body_holds few u leads).laid in
+        let to_w = back_to_w u leads in
+        let w_leads : Leads w u' = record { named = to_w.named; stay = to_w.stay; begin = to_w.begin; thread_begin = to_w.thread_begin } in
+        let v_leads = lists.back u' w_leads in
+        let params_are : f.kind.params ≡ kind.params = ap (λ (x : FunctionInfo). x.kind.params) info_is ∙ is.params in
+        let standing = stands_itself u'.frame in
+        let params_stand : Standing u'.frame (parameter_objects 0 (kinds parameters)) =
+        subst (λ ts. Standing u'.frame (parameter_objects 0 ts)) (params_are ∙ same) (front_of _ (parameter_objects 0 f.kind.params) (list_automatics u.structures items) standing) in
+        let knows = opens.known.tables u' v_leads (tt, filed.knows u' (opens.back u' v_leads)) params_stand in
+        let small' : IsSmall u' = record {
+          statics = small.statics;
+          thread_locals = small.thread_locals;
+          frame = λ k o e. let within = object_within 0 w.frame u'.frame k o laid e in omega (arith, few, within);
+        } in
+        let old = calm_values opened v opens.known.calm u' (filed.valued (short_before short) u' (opens.back u' v_leads) small') in
+        lists.known.values u' w_leads small' knows (back_of _ (parameter_objects 0 f.kind.params) (list_automatics u.structures items) standing) tt old
+
     closed_filed : IsFiled (closed w f items)
     closed_filed = record {
       knows = λ u leads. subst (λ scopes. EachEntity (IsKnownEntity u) scopes) (sym outer) (filed.knows u (back_to_s u leads));
       bodied = λ i g body there g_is few u leads.
-          changed_filed ended ended_lawful number f (defined f items w) known declared refl refl (omega arith)
-          (λ b b_is. let same_body : record { items = items } ≡ b = cc in subst (λ x. BodyHolds (record ended { functions = slice_set ended.functions number (defined f items w) }) f.kind.params f.kind.result w.frame x) same_body body_holds)
-          ended_filed i g body there g_is few u leads;
+          changed_filed ended ended_lawful number f (with_body_read f items w) known declared refl refl (omega arith)
+          (λ b b_is. let same_body : record { items = items } ≡ b = cc in subst (λ x. BodyHolds (record ended { functions = slice_set ended.functions number (with_body_read f items w) }) f.kind.params f.kind.result w.frame x) same_body body_holds)
+          ended_bodied i g body there g_is few u leads;
+      valued = λ short u leads small. closed_values short u leads small;
+      defined = defined_now w.functions w.definitions number f (with_body_read f items w) known (record { items = items }) (ap (λ (x : FunctionInfo). x.body) info_is ∙ fresh) refl ended_defined;
     }
       where
-        ended_filed : IsFiled ended
-        ended_filed = record {
-          knows = λ u leads. subst (λ scopes. EachEntity (IsKnownEntity u) scopes) (sym outer) (filed.knows u (opens.back u (lists.back u leads)));
-          bodied = λ i g body there g_is few u leads.
-              filed.bodied i g body (ap (λ fs. slice_get fs i) (sym functions_are) ∙ there) g_is few u (opens.back u (lists.back u leads));
-        }
+        ended_bodied : AreBodied ended
+        ended_bodied i g body there g_is few u leads =
+            filed.bodied i g body (ap (λ fs. slice_get fs i) (sym functions_are) ∙ there) g_is few u (opens.back u (lists.back u leads))
+
+        ended_defined : AreDefined w.functions w.definitions
+        ended_defined =
+            subst (λ fs. AreDefined fs w.definitions) (sym functions_are)
+            (subst (AreDefined s.functions) (sym (lists.known.steady.definitions_are ∙ opens.known.calm.definitions_are)) filed.defined)
 
     variables_are : w.variables ≡ s.variables
     variables_are = lists.known.steady.variables_are ∙ opens.known.calm.variables_are
@@ -230,7 +270,7 @@ module _ (s : Seen) (lawful : Lawful s) (filed : IsFiled s) (number : ℕ) (kind
 
     pub closed_left : Leaves {A = Unit {0}} (λ b t. Ends s t) s tt (closed w f items)
     closed_left = record {
-      lawful = closed_of (changed_lawful ended ended_lawful number f (defined f items w) known declared refl refl (omega arith));
+      lawful = closed_of (changed_lawful ended ended_lawful number f (with_body_read f items w) known declared refl refl (omega arith));
       stay = stay_twice s.structures v.structures w.structures opens.stay lists.stay;
       known = (closed_filed, closed_agrees);
       outer = ap (drop 1) outer;
@@ -238,7 +278,7 @@ module _ (s : Seen) (lawful : Lawful s) (filed : IsFiled s) (number : ℕ) (kind
       begun = λ k begun. lists.begun k (opens.begun k begun);
     }
       where
-        closed_of : Lawful (record ended { functions = slice_set ended.functions number (defined f items w) }) → Lawful (closed w f items)
+        closed_of : Lawful (record ended { functions = slice_set ended.functions number (with_body_read f items w) }) → Lawful (closed w f items)
         closed_of h = h
 
   -- what stands behind the body

@@ -93,7 +93,7 @@ typed_joined u r looped (x ∷ xs) ys p q = (p.0, typed_joined u r looped xs ys 
 
 none_declared : {A : Type 0} (K : A → Seen → Type 0) (s t : Seen) (a : A) → Made Always K Silent s a t → DeclaresVariables s [] t
 none_declared K s t a h = record {
-  declares = grows_as Always Always NoAutos (λ structures. list_automatics structures []) (Silent a) (AlwaysTyped []) s t (λ u p. p) (λ u leads. refl) (λ u leads small p q r looped. tt)
+  declares = grows_as Always Always NoAutos (λ structures. list_automatics structures []) (Silent a) (AlwaysTyped []) s t (λ u leads small p. p) (λ u leads. refl) (λ u leads small p q r looped. tt)
       (grows_of_made K Silent s a t h);
   variables = tt;
 }
@@ -101,17 +101,17 @@ none_declared K s t a h = record {
 declares_further : (s t v : Seen) (xs ys : List Stmt) → ((u : Tables) → Leads v u → Leads t u) → DeclaresVariables s xs t → DeclaresVariables t ys v → DeclaresVariables s (xs ++ ys) v
 declares_further s t v xs ys back first second = record {
   declares = grows_as Always Always (λ structures. list_automatics structures xs ++ list_automatics structures ys) (λ structures. list_automatics structures (xs ++ ys))
-      (λ u. AlwaysTyped xs u × AlwaysTyped ys u) (AlwaysTyped (xs ++ ys)) s v (λ u p. p) (λ u leads. sym (autos_joined u.structures xs ys))
+      (λ u. AlwaysTyped xs u × AlwaysTyped ys u) (AlwaysTyped (xs ++ ys)) s v (λ u leads small p. p) (λ u leads. sym (autos_joined u.structures xs ys))
       (λ u leads small p q r looped. typed_joined u r looped xs ys (q.0 r looped) (q.1 r looped))
       (grows_then Always (λ structures. list_automatics structures xs) (λ structures. list_automatics structures ys) (AlwaysTyped xs) (AlwaysTyped ys) s t v back first.declares
       (grows_as (λ u. Always u × AlwaysTyped xs u) Always (λ structures. list_automatics structures ys) (λ structures. list_automatics structures ys) (AlwaysTyped ys) (AlwaysTyped ys) t v
-      (λ u p. tt) (λ u leads. refl) (λ u leads small p q. q) second.declares));
+      (λ u leads small p. tt) (λ u leads. refl) (λ u leads small p q. q) second.declares));
   variables = each_joined (λ x. is_variable x ≡ true) xs ys first.variables second.variables;
 }
 
 declares_named : (s t : Seen) (names : List (List ℕ)) (xs : List Stmt) → DeclaresVariables (record s { names = names }) xs t → DeclaresVariables s xs t
 declares_named s t names xs h = record {
-  declares = record { steady = h.declares.steady; few = h.declares.few; laid = h.declares.laid; tables = h.declares.tables };
+  declares = record { steady = h.declares.steady; few = h.declares.few; laid = h.declares.laid; tables = h.declares.tables; values = h.declares.values };
   variables = h.variables;
 }
 

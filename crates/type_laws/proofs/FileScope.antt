@@ -44,9 +44,11 @@ use Rattle.type_laws.proofs.Calling.{FunctionIsFormed, function_in_formed}
 use Rattle.type_laws.proofs.Declared.{AreSpecified, IsShaped, IsParameter, PartIsFormed, MakesFormed, made_is_formed}
 use Rattle.type_laws.proofs.Declarators.{or_first, first_of_three, parameter_stays, specified_stays}
 use Rattle.type_laws.proofs.Declaring.{GoesOn, declaration_left, all_specifiers_keep}
+use Rattle.type_laws.proofs.Definitions.{AreDefined}
 use Rattle.type_laws.proofs.Each.{each_as, each_get}
 use Rattle.type_laws.proofs.Formed.{IsFormed}
-use Rattle.type_laws.proofs.Functions.{IsFiled, VariableIs, Agrees, IsDeclaredAs, DeclaresFunction, function_is, function_left}
+use Rattle.type_laws.proofs.Growing.{calm_values}
+use Rattle.type_laws.proofs.Functions.{AreShort, IsFiled, VariableIs, Agrees, IsDeclaredAs, DeclaresFunction, function_is, function_left}
 use Rattle.type_laws.proofs.Left.{Left, Leaves, then_left, gives_left, fails_left, refused_left, left_as, left_of}
 use Rattle.type_laws.proofs.Scopes.{each_declared, here_before}
 use Rattle.type_laws.proofs.Specifying.{Silent, none_formed}
@@ -61,7 +63,7 @@ pub record IsSound (s : Seen) : Type 0 where
   pub agrees : Agrees s
 
 pub sound_noted : (s : Seen) (names : List (List ℕ)) → IsSound s → IsSound (record s { names = names })
-sound_noted s names h = record { filed = record { knows = h.filed.knows; bodied = h.filed.bodied }; agrees = h.agrees }
+sound_noted s names h = record { filed = record { knows = h.filed.knows; bodied = h.filed.bodied; valued = h.filed.valued; defined = h.filed.defined }; agrees = h.agrees }
 
 -- what was true at file scope stays true
 abbrev pub Files : {A : Type 0} → Seen → A → Seen → Type 0
@@ -73,6 +75,8 @@ made_files K s t a h sound = record {
     knows = λ u leads. (h.tables u leads (sound.filed.knows u (h.back u leads)) tt).0;
     bodied = λ i f body known is few u leads.
         sound.filed.bodied i f body (ap (λ fs. slice_get fs i) (sym h.calm.functions_are) ∙ known) is few u (h.back u leads);
+    valued = λ short u leads small. calm_values s t h.calm u (sound.filed.valued (subst AreShort h.calm.functions_are short) u (h.back u leads) small);
+    defined = subst (λ fs. AreDefined fs t.definitions) (sym h.calm.functions_are) (subst (AreDefined s.functions) (sym h.calm.definitions_are) sound.filed.defined);
   };
   agrees = λ name t' storage n is. subst (λ vs. VariableIs vs n t') (sym h.calm.variables_are) (sound.agrees name t' storage n (h.old name t' storage (Some n) is));
 }
@@ -95,6 +99,8 @@ typed_name s number t sound = record {
   filed = record {
     knows = λ u leads. each_declared (IsKnownEntity u) s.scopes number (TypeName t) (sound.filed.knows u leads) tt;
     bodied = sound.filed.bodied;
+    valued = sound.filed.valued;
+    defined = sound.filed.defined;
   };
   agrees = λ x u storage n is. of x u storage n (here_before s.scopes number (TypeName t) x (Variable u storage (Some n)) is);
 }
@@ -228,11 +234,11 @@ module _ (body : List BlockItem) (d : Named) (s : Seen) (lawful : Lawful s) (fil
       let has = own f ps parameters is in
       let formed = formed_part f is t h in
       left_as (λ (a : Unit {0}) v. Ends t v) (λ a v. IsSound v) t _
-      (body_left t h.lawful (h.known.filed filed.filed) n f ps (block_items body) h.known.is formed
+      (body_left t h.lawful (h.known.filed filed.filed) n f ps (block_items body) h.known.is (h.known.fresh refl) formed
       (each_as (IsParameter s.structures) (IsParameter t.structures) ps (λ p q. parameter_stays s.structures t.structures p h.stay lawful.open_are_empty q) has.each) has.same
       (λ v v_inside. block_items_left f.result body v v_inside)) (λ a v g. record { filed = g.known.0; agrees = g.known.1 (h.known.agrees filed.agrees) }))
     where
-      formed_part : (f : FnType) → function_in d.made.kind ≡ Some f → (t : Seen) → {n : ℕ} → Leaves (DeclaresFunction f s) s n t → IsFormed t.structures f.result
+      formed_part : (f : FnType) → function_in d.made.kind ≡ Some f → (t : Seen) → {n : ℕ} → Leaves (DeclaresFunction f true s) s n t → IsFormed t.structures f.result
       formed_part f is t h = each_get_formed t h.lawful h.known.is
 
   undefined : (f : Bool) (here : Option Entity) → Left (λ (a : Unit {0}) t. IsSound t) s (not_defined d.name f here s)

@@ -3,7 +3,7 @@ use Rattle.std.proofs.Common.{◌≡◌, ℕ, ◌<◌, ◌≤◌, ◌-◌, ◌^�
 use Rattle.std.proofs.lemmas.Bool.{eqb-false}
 use Rattle.std.specs.Prelude.{not, ◌&&◌, ◌||◌, ◌⊎◌, nat_eq, is_some, slice_set}
 use Rattle.scopes.specs.Scope.{Scope, found_here, declare}
-use Rattle.eff_types.specs.Effects.{rank, greatest, union, conflict, added}
+use Rattle.eff_types.specs.Effects.{rank, greatest, union, conflict, forbids, added}
 use Rattle.eff_types.specs.Laws.{IsAtMost}
 use Rattle.eff_types.specs.Types.{same_outside}
 use Rattle.eff_types.specs.declared.levels.Effects.{Effects}
@@ -12,6 +12,7 @@ use Rattle.eff_types.specs.declared.levels.Level.TheVariants as level
 use Rattle.eff_types.specs.declared.types.CType.{CType, Function', end_of-CType, more_of-CType}
 use Rattle.eff_types.specs.declared.types.CType.TheVariants as a_type
 use Rattle.eff_types.specs.declared.types.FnType.{FnType}
+use Rattle.eff_types.proofs.EffectLaws.{conflict-union, union-one}
 use Rattle.eff_types.proofs.Outside.{same_outside-is}
 use Rattle.eff_types.proofs.Shapes.{eta-Function}
 use Rattle.core_unit.specs.Layout.{LaidOut, frame_of}
@@ -32,9 +33,10 @@ use Rattle.type_rules.specs.declared.names.Entity.TheVariants.{Variable, Functio
 use Rattle.type_rules.specs.declared.notes.TypeWarning.{TypeWarning}
 use Rattle.type_rules.specs.declared.notes.TypeWarning.TheVariants.{Redeclaration}
 use Rattle.type_laws.proofs.Declarators.{not_false, or_second}
+use Rattle.type_laws.proofs.Definitions.{AreDefined, defined_more, defined_again}
 use Rattle.type_laws.proofs.Each.{each_as, each_get, each_more, each_set}
 use Rattle.type_laws.proofs.Formed.{IsFormed, stay_same}
-use Rattle.type_laws.proofs.Growing.{IsSmall}
+use Rattle.type_laws.proofs.Growing.{IsSmall, AreValued}
 use Rattle.type_laws.proofs.Left.{Left, fails_left}
 use Rattle.type_laws.proofs.Lists.{get_before, get_last, get_inside, get_more, length_more, get_set, get_other, get_after_set}
 use Rattle.type_laws.proofs.Naming.{formed_with}
@@ -55,11 +57,21 @@ abbrev pub BodyHolds : Seen → List CType → CType → ℕ → Body → Type 0
 BodyHolds s params result words body =
     words < 2 ^ 32 - 1 → (u : Tables) → Leads s u → IsTypedBody params result words body u
 
--- What is true at file scope: all names are known by the tables alone, and each body is typed.
+-- the bodies of functions are typed
+abbrev pub AreBodied : Seen → Type 0
+AreBodied s =
+    (i : ℕ) (f : FunctionInfo) (body : Body) → slice_get s.functions i ≡ Some f → f.body ≡ Some body → BodyHolds s f.kind.params f.kind.result f.frame_words body
+
+-- the words of all frames are told by 32 bits
+abbrev pub AreShort : List FunctionInfo → Type 0
+AreShort functions = (i : ℕ) (f : FunctionInfo) → slice_get functions i ≡ Some f → f.frame_words < 2 ^ 32 - 1
+
+-- What is true at file scope: all names are known by the tables alone, each body is typed, and words hold values.
 pub record IsFiled (s : Seen) : Type 0 where
   pub knows : (u : Tables) → Leads s u → Knows s u
-  pub bodied : (i : ℕ) (f : FunctionInfo) (body : Body) → slice_get s.functions i ≡ Some f → f.body ≡ Some body
-      → BodyHolds s f.kind.params f.kind.result f.frame_words body
+  pub bodied : AreBodied s
+  pub valued : AreShort s.functions → (u : Tables) → Leads s u → IsSmall u → AreValued s u
+  pub defined : AreDefined s.functions s.definitions
 
 -- a variable of file scope has the type that its name has
 pub record VariableIs (variables : List VariableInfo) (n : ℕ) (t : CType) : Type 0 where
@@ -108,6 +120,8 @@ lawful_functions s functions lawful more each = record {
   tags_lawful = lawful.tags_lawful;
   ranked = lawful.ranked;
   variables_solid = lawful.variables_solid;
+  objects_known = lawful.objects_known;
+  whole_fits = lawful.whole_fits;
 }
 
 -- the function that a declaration is of
@@ -117,8 +131,10 @@ pub record IsDeclaredAs (kind : FnType) (number : ℕ) (t : Seen) : Type 0 where
   pub params : info.kind.params ≡ kind.params
   pub result : info.kind.result ≡ kind.result
 
-pub record DeclaresFunction (kind : FnType) (s : Seen) (number : ℕ) (t : Seen) : Type 0 where
+pub record DeclaresFunction (kind : FnType) (has_body : Bool) (s : Seen) (number : ℕ) (t : Seen) : Type 0 where
   pub is : IsDeclaredAs kind number t
+  -- what is to have a body has none yet
+  pub fresh : has_body ≡ true → is.info.body ≡ None
   pub filed : IsFiled s → IsFiled t
   pub agrees : Agrees s → Agrees t
 
@@ -139,6 +155,8 @@ module _ (s : Seen) (lawful : Lawful s) (new : FunctionInfo) (declared : IsDecla
   first_filed h = record {
     knows = λ u leads. each_declared (IsKnownEntity u) s.scopes name (Function (length s.functions)) (h.knows u (first_back u leads)) tt;
     bodied = λ i f body known there few u leads. of i f body there (get_more s.functions new i f known) few u leads;
+    valued = λ short u leads small. h.valued (λ i f e. short i f (get_before s.functions new i f e)) u (first_back u leads) small;
+    defined = defined_more s.functions s.definitions new empty h.defined;
   }
     where
       of : (i : ℕ) (f : FunctionInfo) (body : Body) → f.body ≡ Some body → (slice_get s.functions i ≡ Some f) ⊎ ((i ≡ length s.functions) × (new ≡ f))
@@ -164,13 +182,14 @@ module _ (s : Seen) (lawful : Lawful s) (new : FunctionInfo) (declared : IsDecla
   first_outer [] e = refl
   first_outer (scope ∷ outer) e = refl
 
-  pub first_left : (kind : FnType) → new.kind.params ≡ kind.params → new.kind.result ≡ kind.result → Left (DeclaresFunction kind s) s (Good (length s.functions) first)
-  first_left kind params result = record {
+  pub first_left : (kind : FnType) (has_body : Bool) → new.kind.params ≡ kind.params → new.kind.result ≡ kind.result → Left (DeclaresFunction kind has_body s) s (Good (length s.functions) first)
+  first_left kind has_body params result = record {
     holds = record {
       lawful = first_lawful;
       stay = stay_same s.structures;
       known = record {
         is = record { info = new; known = get_last s.functions new; params = params; result = result };
+        fresh = λ e. empty;
         filed = first_filed;
         agrees = first_agrees;
       };
@@ -195,6 +214,11 @@ level_rises level.NonBlocking level.NonBlocking = omega arith
 union_rises : (a b : Effects) → IsAtMost a.level (union (a ∷ b ∷ [])).level
 unfolding union
 union_rises a b = level_rises a.level b.level
+
+-- the union of what doesn't conflict doesn't
+union_fits : (a b : Effects) → conflict (a ∷ b ∷ []) ≡ false → conflict (union (a ∷ b ∷ []) ∷ []) ≡ false
+union_fits a b agreed =
+    conflict-union (union (a ∷ b ∷ []) ∷ []) ∙ ap (λ (e : Effects). forbids e e.level) (union-one (union (a ∷ b ∷ []))) ∙ sym (conflict-union (a ∷ b ∷ [])) ∙ agreed
 
 some_is : (f g : FnType) → Some f ≡ Some g → f ≡ g
 some_is f g e = cc
@@ -255,7 +279,7 @@ module _ (s : Seen) (lawful : Lawful s) (number : ℕ) (f new : FunctionInfo) (k
       lawful_functions s changed lawful (let same = length-set s.functions number new in omega (arith, same)) (each_set (IsDeclared s.structures) s.functions number new lawful.functions_formed declared)
 
   pub changed_filed : ((body : Body) → new.body ≡ Some body → BodyHolds (record s { functions = changed }) new.kind.params new.kind.result new.frame_words body)
-      → IsFiled s → (i : ℕ) (g : FunctionInfo) (body : Body) → slice_get changed i ≡ Some g → g.body ≡ Some body
+      → AreBodied s → (i : ℕ) (g : FunctionInfo) (body : Body) → slice_get changed i ≡ Some g → g.body ≡ Some body
       → BodyHolds (record s { functions = changed }) g.kind.params g.kind.result g.frame_words body
   changed_filed holds h i g body there is = of (get_after_set s.functions number new i g (get_inside s.functions number f known) there)
     where
@@ -263,16 +287,31 @@ module _ (s : Seen) (lawful : Lawful s) (number : ℕ) (f new : FunctionInfo) (k
       of (inl q) =
           subst (λ (x : FunctionInfo). BodyHolds (record s { functions = changed }) x.kind.params x.kind.result x.frame_words body) q.1
           (holds body (ap (λ (x : FunctionInfo). x.body) q.1 ∙ is))
-      of (inr q) = λ few u leads. h.bodied i g body q.1 is few u (changed_back u leads)
+      of (inr q) = λ few u leads. h i g body q.1 is few u (changed_back u leads)
+
+-- what was short before a function was changed
+pub short_changed : (functions : List FunctionInfo) (number : ℕ) (f new : FunctionInfo) → slice_get functions number ≡ Some f → f.frame_words < 2 ^ 32 - 1
+    → AreShort (slice_set functions number new) → AreShort functions
+short_changed functions number f new known few short i g e = of (nat_eq i number) refl
+  where
+    of : (test : Bool) → nat_eq i number ≡ test → g.frame_words < 2 ^ 32 - 1
+    of true t =
+        let same : Some f ≡ Some g = sym known ∙ ap (slice_get functions) (sym (eqb-true i number t)) ∙ e in
+        let is : f ≡ g = cc in
+        subst (λ (x : FunctionInfo). x.frame_words < 2 ^ 32 - 1) is few
+    of false t = short i g (get_other functions number new i (eqb-false i number t) ∙ e)
 
 -- a further declaration
-module _ (s : Seen) (lawful : Lawful s) (number : ℕ) (f : FunctionInfo) (known : slice_get s.functions number ≡ Some f) (e : Effects) (noreturn internal : Bool) (warnings : List TypeWarning) where
+module _ (s : Seen) (lawful : Lawful s) (number : ℕ) (f : FunctionInfo) (known : slice_get s.functions number ≡ Some f) (e : Effects) (noreturn internal : Bool) (warnings : List TypeWarning)
+    (agreed : conflict (f.kind.effects ∷ e ∷ []) ≡ false) where
   abbrev again : FunctionInfo
   again = record f { kind = record f.kind { effects = union (f.kind.effects ∷ e ∷ []) }; noreturn = noreturn; internal = internal }
 
   again_declared : IsDeclared s.structures again
   again_declared = record {
     formed = formed_with s.structures (Some (union (f.kind.effects ∷ e ∷ []))) f.kind (each_get (IsDeclared s.structures) s.functions number f lawful.functions_formed known).formed;
+    fits = union_fits f.kind.effects e agreed;
+    unframed = (each_get (IsDeclared s.structures) s.functions number f lawful.functions_formed known).unframed;
   }
 
   abbrev after : Seen
@@ -284,7 +323,11 @@ module _ (s : Seen) (lawful : Lawful s) (number : ℕ) (f : FunctionInfo) (known
     bodied = λ i g body there is few u leads.
         changed_filed s lawful number f again known again_declared refl refl (union_rises f.kind.effects e)
         (λ b f_is f_few v v_leads. h.bodied number f b known f_is f_few v (changed_back s lawful number f again known again_declared refl refl (union_rises f.kind.effects e) v v_leads))
-        h i g body there is few u (to_changed u leads);
+        h.bodied i g body there is few u (to_changed u leads);
+    valued = λ short u leads small.
+        let few = short number again (get_set s.functions number again (get_inside s.functions number f known)) in
+        h.valued (short_changed s.functions number f again known few short) u (back u leads) small;
+    defined = defined_again s.functions s.definitions number f again known refl h.defined;
   }
     where
       to_changed : (u : Tables) → Leads after u → Leads (record s { functions = slice_set s.functions number again }) u
@@ -293,8 +336,9 @@ module _ (s : Seen) (lawful : Lawful s) (number : ℕ) (f : FunctionInfo) (known
       back : (u : Tables) → Leads after u → Leads s u
       back u leads = changed_back s lawful number f again known again_declared refl refl (union_rises f.kind.effects e) u leads
 
-  pub after_left : (kind : FnType) → same_outside (a_type.Function f.kind) (a_type.Function kind) ≡ true → Left (DeclaresFunction kind s) s (Good number after)
-  after_left kind alike = record {
+  pub after_left : (kind : FnType) (has_body : Bool) → is_some f.body && has_body ≡ false → same_outside (a_type.Function f.kind) (a_type.Function kind) ≡ true
+      → Left (DeclaresFunction kind has_body s) s (Good number after)
+  after_left kind has_body once alike = record {
     holds = record {
       lawful = changed_lawful s lawful number f again known again_declared refl refl (union_rises f.kind.effects e);
       stay = stay_same s.structures;
@@ -305,6 +349,7 @@ module _ (s : Seen) (lawful : Lawful s) (number : ℕ) (f : FunctionInfo) (known
           params = ap (λ (x : FnType). x.params) ((same_outside-is f.kind kind).0 alike);
           result = ap (λ (x : FnType). x.result) ((same_outside-is f.kind kind).0 alike);
         };
+        fresh = λ e. none_of f.body has_body once e;
         filed = after_filed;
         agrees = λ h. h;
       };
@@ -313,26 +358,35 @@ module _ (s : Seen) (lawful : Lawful s) (number : ℕ) (f : FunctionInfo) (known
       begun = λ k begun. begun;
     };
   }
+    where
+      none_of : (b : Option Body) (test : Bool) → is_some b && test ≡ false → test ≡ true → b ≡ None
+      none_of None test once e = refl
+      none_of (Some body) true once e = absurd (cc)
+      none_of (Some body) false once e = absurd (cc)
 
 -- a declaration of a function
 module _ (d : FunctionDeclaration) (s : Seen) (lawful : Lawful s)
     (formed : d.mistyped ≡ false → d.made.incomplete ≡ false → IsFormed s.structures (a_type.Function d.kind)) where
-  first_declared : Left (DeclaresFunction d.kind s) s (first_declaration d s)
+  first_declared : Left (DeclaresFunction d.kind d.has_body s) s (first_declaration d s)
   unfolding and_then
   first_declared =
       faults_left s false d.mistyped (d.made.conflicting || conflict (marked s.marks (length s.functions) d.kind.effects ∷ [])) d.made.incomplete d.name.start _ (λ a b c e.
-      first_left s lawful _ (record { formed = formed_with s.structures (Some (marked s.marks (length s.functions) d.kind.effects)) d.kind (formed b e) }) refl d.number d.kind refl refl)
+      first_left s lawful _ (record {
+        formed = formed_with s.structures (Some (marked s.marks (length s.functions) d.kind.effects)) d.kind (formed b e);
+        fits = or_second d.made.conflicting (conflict (marked s.marks (length s.functions) d.kind.effects ∷ [])) c;
+        unframed = λ none. refl;
+      }) refl d.number d.kind d.has_body refl refl)
 
-  further_declared : (number : ℕ) (found : Option FunctionInfo) → slice_get s.functions number ≡ found → Left (DeclaresFunction d.kind s) s (further_declaration d s.marks number found s)
+  further_declared : (number : ℕ) (found : Option FunctionInfo) → slice_get s.functions number ≡ found → Left (DeclaresFunction d.kind d.has_body s) s (further_declaration d s.marks number found s)
   unfolding and_then
   further_declared number None known = fails_left s 2 d.name.start
   further_declared number (Some f) known =
       faults_left s (is_some f.body && d.has_body) (d.mistyped || not (same_outside (a_type.Function f.kind) (a_type.Function d.kind)))
       (d.made.conflicting || conflict (f.kind.effects ∷ marked s.marks number d.kind.effects ∷ [])) d.made.incomplete d.name.start _ (λ a b c e.
       let alike = not_false (same_outside (a_type.Function f.kind) (a_type.Function d.kind)) (or_second d.mistyped (not (same_outside (a_type.Function f.kind) (a_type.Function d.kind))) b) in
-      of (added (marked s.marks number d.kind.effects) f.kind.effects) alike)
+      of (added (marked s.marks number d.kind.effects) f.kind.effects) (or_second d.made.conflicting (conflict (f.kind.effects ∷ marked s.marks number d.kind.effects ∷ [])) c) a alike)
     where
-      of : (raised : Option Level) → same_outside (a_type.Function f.kind) (a_type.Function d.kind) ≡ true → Left (DeclaresFunction d.kind s) s
+      of : (raised : Option Level) → conflict (f.kind.effects ∷ marked s.marks number d.kind.effects ∷ []) ≡ false → is_some f.body && d.has_body ≡ false → same_outside (a_type.Function f.kind) (a_type.Function d.kind) ≡ true → Left (DeclaresFunction d.kind d.has_body s) s
           (and_then (warned raised (Redeclaration d.name.start) s) (λ _ t. Good number (record t {
             functions = slice_set t.functions number (record f {
               kind = record f.kind { effects = union (f.kind.effects ∷ marked s.marks number d.kind.effects ∷ []) };
@@ -340,11 +394,11 @@ module _ (d : FunctionDeclaration) (s : Seen) (lawful : Lawful s)
               internal = f.internal || d.internal;
             });
           })))
-      of None alike = after_left s lawful number f known (marked s.marks number d.kind.effects) (f.noreturn || d.made.noreturn) (f.internal || d.internal) s.warnings d.kind alike
-      of (Some l) alike =
-          after_left s lawful number f known (marked s.marks number d.kind.effects) (f.noreturn || d.made.noreturn) (f.internal || d.internal) (s.warnings ++ Redeclaration d.name.start l ∷ []) d.kind alike
+      of None agreed once alike = after_left s lawful number f known (marked s.marks number d.kind.effects) (f.noreturn || d.made.noreturn) (f.internal || d.internal) s.warnings agreed d.kind d.has_body once alike
+      of (Some l) agreed once alike =
+          after_left s lawful number f known (marked s.marks number d.kind.effects) (f.noreturn || d.made.noreturn) (f.internal || d.internal) (s.warnings ++ Redeclaration d.name.start l ∷ []) agreed d.kind d.has_body once alike
 
-  pub function_left : (here : Option Entity) → Left (DeclaresFunction d.kind s) s (function_declared d here s)
+  pub function_left : (here : Option Entity) → Left (DeclaresFunction d.kind d.has_body s) s (function_declared d here s)
   unfolding and_then
   function_left None = first_declared
   function_left (Some (Function number)) = further_declared number (slice_get s.functions number) refl

@@ -1,6 +1,6 @@
 -- What the rules of blocks leave: the automatic variables that they add stand in the frame one behind the other, and where they do in the tables,
 -- all is typed.
-use Rattle.std.proofs.Common.{◌≡◌, ℕ, ◌<◌, ◌+◌, ◌-◌, ◌^◌, refl, sym, ◌∙◌, ap, subst, List, [], ◌∷◌, ◌++◌, drop, length, slice_get, Some}
+use Rattle.std.proofs.Common.{◌≡◌, ℕ, ◌<◌, ◌≤◌, zero, suc, ◌+◌, ◌-◌, ◌^◌, refl, sym, ◌∙◌, ap, subst, List, [], ◌∷◌, ◌++◌, drop, length, slice_get, Some, arith}
 use Rattle.scopes.specs.Scope.{Scope}
 use Rattle.eff_types.specs.declared.levels.Effects.{Effects}
 use Rattle.eff_types.specs.declared.types.CType.{CType}
@@ -15,7 +15,8 @@ use Rattle.type_rules.specs.Seen.{Seen}
 use Rattle.type_rules.specs.declared.names.Entity.{Entity}
 use Rattle.type_laws.proofs.Each.{Each, each_dropped}
 use Rattle.type_laws.proofs.Left.{Left, longer}
-use Rattle.type_laws.proofs.Triples.{EachEntity, IsKnownEntity, Lawful, Leads, Knows, Made, Always}
+use Rattle.type_laws.proofs.Triples.{EachEntity, IsKnownEntity, Lawful, Leads, Knows, Calm, Made, Always}
+use Rattle.type_laws.proofs.Valued.{Valued}
 
 -- the objects are among those of a frame
 abbrev pub Standing : List Object → List Object → Type 0
@@ -51,18 +52,26 @@ steady_twice s t v p q = record {
   result_is = q.result_is ∙ p.result_is;
 }
 
+-- what is noted of words are values
+abbrev pub AreValued : Seen → Tables → Type 0
+AreValued s u = Valued u s.static_values × Valued u s.thread_values
+
 -- `autos`: the automatic variables that are added; `P` is true of what is given, by the tables
 pub record GrowsUnder (pre : Tables → Type 0) (autos : List StructInfo → List Object) (P : Tables → Type 0) (s t : Seen) : Type 0 where
   pub steady : Steady s t
   pub few : t.frame < 2 ^ 32 - 1 → s.frame < 2 ^ 32 - 1
   pub laid : (u : Tables) → Leads t u → t.frame < 2 ^ 32 - 1 → LaidOut s.frame (autos u.structures) t.frame
   pub tables : (u : Tables) → Leads t u → IsSmall u → Knows s u → Standing u.frame (autos u.structures) → pre u → Knows t u × P u
+  pub values : (u : Tables) → Leads t u → IsSmall u → Knows s u → Standing u.frame (autos u.structures) → pre u → AreValued s u → AreValued t u
 
 abbrev pub Grows : (List StructInfo → List Object) → (Tables → Type 0) → Seen → Seen → Type 0
 Grows autos P s t = GrowsUnder Always autos P s t
 
 abbrev pub NoAutos : List StructInfo → List Object
 NoAutos structures = []
+
+pub calm_values : (s t : Seen) → Calm s t → (u : Tables) → AreValued s u → AreValued t u
+calm_values s t calm u v = (calm.values_kept u v.0, subst (Valued u) (sym calm.thread_values_are) v.1)
 
 -- an expression adds none
 pub grows_of_made : {A : Type 0} (K : A → Seen → Type 0) (P : A → Tables → Type 0) (s : Seen) (a : A) (t : Seen) → Made Always K P s a t → Grows NoAutos (P a) s t
@@ -77,11 +86,25 @@ grows_of_made K P s a t h = record {
   few = λ few. subst (λ n. n < 2 ^ 32 - 1) h.calm.frame_is few;
   laid = λ u leads few. sym h.calm.frame_is;
   tables = λ u leads small knows standing p. h.tables u leads knows tt;
+  values = λ u leads small knows standing p v. calm_values s t h.calm u v;
 }
 
 pub laid_joined : (a b c : ℕ) (xs ys : List Object) → LaidOut a xs b → LaidOut b ys c → LaidOut a (xs ++ ys) c
 laid_joined a b c [] ys p q = subst (λ n. LaidOut n ys c) (sym p) q
 laid_joined a b c (x ∷ xs) ys p q = (p.0, p.1, laid_joined (a + x.words) b c xs ys p.2 q)
+
+-- each object of a row is within it
+pub object_within : (first last : ℕ) (objects : List Object) (i : ℕ) (o : Object) → LaidOut first objects last → slice_get objects i ≡ Some o → first + o.words ≤ last
+object_within first last [] i o laid there = absurd (cc)
+object_within first last (x ∷ xs) zero o laid there =
+    let same : x ≡ o = cc in
+    let rest = ends_behind (first + x.words) last xs laid.2 in
+    subst (λ (y : Object). first + y.words ≤ last) same rest
+  where
+    ends_behind : (first last : ℕ) (objects : List Object) → LaidOut first objects last → first ≤ last
+    ends_behind first last [] laid = omega arith
+    ends_behind first last (x ∷ xs) laid = let rest = ends_behind (first + x.words) last xs laid.2 in omega arith
+object_within first last (x ∷ xs) (suc i) o laid there = let rest = object_within (first + x.words) last xs i o laid.2 there in omega arith
 
 pub front_of : {A : Type 0} (P : A → Type 0) (xs ys : List A) → Each P (xs ++ ys) → Each P xs
 front_of P [] ys each = tt
@@ -103,31 +126,37 @@ grows_then pre A B P Q s t v back first second = record {
       let here = first.tables u (back u leads) small knows (front_of _ (A u.structures) (B u.structures) standing) p in
       let there = second.tables u leads small here.0 (back_of _ (A u.structures) (B u.structures) standing) (p, here.1) in
       (there.0, (here.1, there.1));
+  values = λ u leads small knows standing p v.
+      let here = first.tables u (back u leads) small knows (front_of _ (A u.structures) (B u.structures) standing) p in
+      second.values u leads small here.0 (back_of _ (A u.structures) (B u.structures) standing) (p, here.1)
+      (first.values u (back u leads) small knows (front_of _ (A u.structures) (B u.structures) standing) p v);
 }
 
 -- the same, in other words
-pub grows_as : (more less : Tables → Type 0) (A B : List StructInfo → List Object) (P Q : Tables → Type 0) (s t : Seen) → ((u : Tables) → more u → less u)
+pub grows_as : (more less : Tables → Type 0) (A B : List StructInfo → List Object) (P Q : Tables → Type 0) (s t : Seen) → ((u : Tables) → Leads t u → IsSmall u → more u → less u)
     → ((u : Tables) → Leads t u → A u.structures ≡ B u.structures) → ((u : Tables) → Leads t u → IsSmall u → more u → P u → Q u) → GrowsUnder less A P s t → GrowsUnder more B Q s t
 grows_as more less A B P Q s t asks same as_well h = record {
   steady = h.steady;
   few = h.few;
   laid = λ u leads few. subst (λ objects. LaidOut s.frame objects t.frame) (same u leads) (h.laid u leads few);
   tables = λ u leads small knows standing p.
-      let here = h.tables u leads small knows (subst (λ objects. Standing u.frame objects) (sym (same u leads)) standing) (asks u p) in
+      let here = h.tables u leads small knows (subst (λ objects. Standing u.frame objects) (sym (same u leads)) standing) (asks u leads small p) in
       (here.0, as_well u leads small p here.1);
+  values = λ u leads small knows standing p v.
+      h.values u leads small knows (subst (λ objects. Standing u.frame objects) (sym (same u leads)) standing) (asks u leads small p) v;
 }
 
 -- the same without conditions, in the words of both
 pub chain : (A B C : List StructInfo → List Object) (P Q R : Tables → Type 0) (s t v : Seen) → ((u : Tables) → Leads v u → Leads t u)
     → ((structures : List StructInfo) → A structures ++ B structures ≡ C structures) → ((u : Tables) → P u → Q u → R u) → Grows A P s t → Grows B Q t v → Grows C R s v
 chain A B C P Q R s t v back same as_well first second =
-    grows_as Always Always (λ structures. A structures ++ B structures) C (λ u. P u × Q u) R s v (λ u p. p) (λ u leads. same u.structures) (λ u leads small p q. as_well u q.0 q.1)
-    (grows_then Always A B P Q s t v back first (grows_as (λ u. Always u × P u) Always B B Q Q t v (λ u p. tt) (λ u leads. refl) (λ u leads small p q. q) second))
+    grows_as Always Always (λ structures. A structures ++ B structures) C (λ u. P u × Q u) R s v (λ u leads small p. p) (λ u leads. same u.structures) (λ u leads small p q. as_well u q.0 q.1)
+    (grows_then Always A B P Q s t v back first (grows_as (λ u. Always u × P u) Always B B Q Q t v (λ u leads small p. tt) (λ u leads. refl) (λ u leads small p q. q) second))
 
 -- the same of what is given, in other words
 pub restated : (A B : List StructInfo → List Object) (P Q : Tables → Type 0) (s t : Seen) → ((structures : List StructInfo) → A structures ≡ B structures)
     → ((u : Tables) → P u → Q u) → Grows A P s t → Grows B Q s t
-restated A B P Q s t same as_well h = grows_as Always Always A B P Q s t (λ u p. p) (λ u leads. same u.structures) (λ u leads small p q. as_well u q) h
+restated A B P Q s t same as_well h = grows_as Always Always A B P Q s t (λ u leads small p. p) (λ u leads. same u.structures) (λ u leads small p q. as_well u q) h
 
 pub grows_same : (pre : Tables → Type 0) (s : Seen) (P : Tables → Type 0) → ((u : Tables) → pre u → P u) → GrowsUnder pre NoAutos P s s
 grows_same pre s P all = record {
@@ -135,6 +164,7 @@ grows_same pre s P all = record {
   few = λ few. few;
   laid = λ u leads few. refl;
   tables = λ u leads small knows standing p. (knows, all u p);
+  values = λ u leads small knows standing p v. v;
 }
 
 -- a rule of a block, from this state
@@ -166,6 +196,8 @@ scoped_grows {A = A} autos P rule s lawful grows = of (rule opened) (grows opene
       tags_lawful = lawful.tags_lawful;
       ranked = lawful.ranked;
       variables_solid = lawful.variables_solid;
+      objects_known = lawful.objects_known;
+      whole_fits = lawful.whole_fits;
     }
 
     closed_lawful : (t : Seen) → drop 1 t.scopes ≡ s.scopes → Lawful t → Lawful (record t { scopes = drop 1 t.scopes })
@@ -184,6 +216,8 @@ scoped_grows {A = A} autos P rule s lawful grows = of (rule opened) (grows opene
       tags_lawful = h.tags_lawful;
       ranked = h.ranked;
       variables_solid = h.variables_solid;
+      objects_known = h.objects_known;
+      whole_fits = h.whole_fits;
     }
 
     closed_grows : (a : A) (t : Seen) → drop 1 t.scopes ≡ s.scopes → Grows (autos a) (P a) opened t → Grows (autos a) (P a) s (record t { scopes = drop 1 t.scopes })
@@ -193,6 +227,7 @@ scoped_grows {A = A} autos P rule s lawful grows = of (rule opened) (grows opene
       laid = h.laid;
       tables = λ u leads small knows standing p.
           let here = h.tables u leads small (tt, knows) standing p in (subst (λ scopes. EachEntity (IsKnownEntity u) scopes) (sym outer) knows, here.1);
+      values = λ u leads small knows standing p v. h.values u leads small (tt, knows) standing p v;
     }
 
     of : (r : Read A) → Growing autos P opened r → Growing autos P s (and_then r (λ a t. Good a (record t { scopes = drop 1 t.scopes })))

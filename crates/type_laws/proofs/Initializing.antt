@@ -1,9 +1,7 @@
 -- Initializers keep what was seen, and fill their objects where 32 bits tell how many words these have.
-use Rattle.std.proofs.Common.{◌≡◌, ℕ, zero, suc, ◌<◌, ◌≤◌, ◌+◌, ◌-◌, ◌^◌, Bool, true, false, refl, sym, ◌∙◌, ap, subst, List, [], ◌∷◌, ◌++◌, flat_map, length, Option, Some, None, arith, ltb-false}
-use Rattle.std.specs.Prelude.{not, ◌||◌, ◌==◌, nat_eq, nat_lt, unwrap_or, if◌then◌else◌}
+use Rattle.std.proofs.Common.{◌≡◌, ℕ, ◌<◌, ◌≤◌, ◌+◌, ◌-◌, ◌^◌, Bool, true, false, refl, sym, ◌∙◌, ap, subst, List, [], ◌∷◌, ◌++◌, length, Option, Some, None, arith, ltb-false}
+use Rattle.std.specs.Prelude.{not, ◌||◌, nat_eq, nat_lt, if◌then◌else◌}
 use Rattle.std.proofs.lemmas.Bool.{eqb-false}
-use Rattle.c_text.specs.Escapes.{escape_value, values_after, text_values}
-use Rattle.c_text.specs.Forms.{escape_length}
 use Rattle.c_tree.specs.declared.declarations.Init as written
 use Rattle.c_tree.specs.declared.declarations.Init.{Init, Row_of-Init, end_of-Init, more_of-Init}
 use Rattle.c_tree.specs.declared.expressions.Expr as tree
@@ -32,10 +30,10 @@ use Rattle.type_rules.specs.Seen.{Seen}
 use Rattle.type_rules.specs.declared.found.Found.{Found}
 use Rattle.type_rules.specs.declared.names.Entity.{Entity}
 use Rattle.type_rules.specs.declared.names.Entity.TheVariants.{Variable, Function, TypeName, Enumerator, Library, NullPointer, MutexInitializer}
-use Rattle.type_laws.proofs.Characters.{IsByte, escape_byte, value_byte}
+use Rattle.type_laws.proofs.Characters.{IsByte}
 use Rattle.type_laws.proofs.Converted.{IsIn, converted_keeps}
 use Rattle.type_laws.proofs.Declarators.{or_first}
-use Rattle.type_laws.proofs.Each.{Each, each_taken, each_dropped, each_joined}
+use Rattle.type_laws.proofs.Each.{Each}
 use Rattle.type_laws.proofs.Filling.{IsFilled, AreFilled, filled_more, total, part_of_total, filled-Zeros, listed_filled, sum_fits, all_of_each}
 use Rattle.type_laws.proofs.Formed.{IsFormed, Stay, OpenAreEmpty, stay_twice, formed_stays, words_stay}
 use Rattle.type_laws.proofs.Lists.{length_more}
@@ -44,6 +42,7 @@ use Rattle.type_laws.proofs.Operands.{IsFound, IsTypedFound, IsTypedOperand, val
 use Rattle.type_laws.proofs.Parts.{told_total, IsPart, part_is}
 use Rattle.type_laws.proofs.Steps.{noted_triple, under}
 use Rattle.type_laws.proofs.Strings.{object_kept}
+use Rattle.type_laws.proofs.Texts.{text_bytes}
 use Rattle.type_laws.proofs.Trees.{expression_keeps}
 use Rattle.type_laws.proofs.Triples.{Triple, Keeps, Always, Lawful, then_keeps, gives_keeps, refused_keeps, fails_keeps, anyway}
 
@@ -118,28 +117,6 @@ braced_keeps fixed place t (more_of-Init (written.Value e) (more_of-Init i is'))
 braced_keeps fixed place t end_of-Init s lawful formed is = fails_keeps s 9 place
 braced_keeps fixed place t (more_of-Init (written.List' p z inits) rest) s lawful formed is = fails_keeps s 9 place
 
--- the bytes of a text
-values_bytes : (skip : ℕ) (rest : List ℕ) → Each IsByte rest → Each IsByte (values_after skip rest)
-values_bytes skip [] each = tt
-values_bytes zero (b ∷ rest) each = of (b == 34) (b == 92) (values_bytes (unwrap_or (escape_length rest) 0) rest each.1) (values_bytes zero rest each.1)
-  where
-    of : (quote slash : Bool) → Each IsByte (values_after (unwrap_or (escape_length rest) 0) rest) → Each IsByte (values_after zero rest)
-        → Each IsByte (if quote then [] else (if slash then unwrap_or (escape_value rest) 0 ∷ values_after (unwrap_or (escape_length rest) 0) rest else b ∷ values_after zero rest))
-    of true slash p q = tt
-    of false true p q = (value_byte (escape_value rest) (escape_byte rest each.1), p)
-    of false false p q = (each.0, q)
-values_bytes (suc k) (b ∷ rest) each = values_bytes k rest each.1
-
-text_bytes : (source : List ℕ) (strings : List Span) → Each IsByte source → Each IsByte (text_in source strings)
-unfolding text_in
-text_bytes source strings each = all strings
-  where
-    all : (strings : List Span) → Each IsByte (flat_map (λ at. text_values (text_of source at)) strings)
-    all [] = tt
-    all (at ∷ rest) =
-        each_joined IsByte (text_values (text_of source at)) _
-        (values_bytes 1 (text_of source at) (each_taken IsByte (at.end - at.start) _ (each_dropped IsByte at.start source each))) (all rest)
-
 array_words : (structures : List StructInfo) (n : ℕ) → words_of structures (array_of Char n) < 2 ^ 32 - 1 → words_of structures (array_of Char n) ≡ n
 unfolding words_of
 array_words structures n few = omega arith
@@ -153,7 +130,7 @@ text_filled : (s : Seen) (t : CType) (size : ℕ) (place : ℕ) (bytes : List �
     → Triple Always Anything (Fills t) s (text_fits place size bytes s)
 unfolding text_fits and_then
 text_filled s t size place bytes lawful is each =
-    then_keeps s (string_object bytes s) _ (object_kept Always s bytes lawful) (λ address v v_lawful v_stay known.
+    then_keeps s (string_object bytes s) _ (object_kept Always s bytes each lawful) (λ address v v_lawful v_stay known.
     refused_keeps v (nat_lt size (length bytes)) 9 place _ (λ e.
     let fits = ltb-false size (length bytes) e in
     let whole : size ≡ length bytes + (size - length bytes) = omega (arith, fits) in

@@ -131,6 +131,8 @@ scoped_keeps {A = A} pre K rule s lawful same keeps = of (rule opened) (keeps op
       tags_lawful = lawful.tags_lawful;
       ranked = lawful.ranked;
       variables_solid = lawful.variables_solid;
+      objects_known = lawful.objects_known;
+      whole_fits = lawful.whole_fits;
     }
 
     closed_lawful : (t : Seen) → drop 1 t.scopes ≡ s.scopes → Lawful t → Lawful (record t { scopes = drop 1 t.scopes })
@@ -149,6 +151,8 @@ scoped_keeps {A = A} pre K rule s lawful same keeps = of (rule opened) (keeps op
       tags_lawful = h.tags_lawful;
       ranked = h.ranked;
       variables_solid = h.variables_solid;
+      objects_known = h.objects_known;
+      whole_fits = h.whole_fits;
     }
 
     of : (r : Read A) → Left (Calmly K opened) opened r → Triple pre K (λ a u. Unit {0}) s (and_then r (λ a t. Good a (record t { scopes = drop 1 t.scopes })))

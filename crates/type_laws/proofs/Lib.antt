@@ -3,9 +3,12 @@ pub mod Typed
 pub mod Formed
 pub mod Each
 pub mod Lists
+pub mod Objects
+pub mod Definitions
 pub mod Scopes
 pub mod Tags
 pub mod Ranks
+pub mod Valued
 pub mod Triples
 pub mod Operands
 pub mod Conversions
@@ -23,11 +26,13 @@ pub mod Members
 pub mod Calling
 pub mod Naming
 pub mod Literals
+pub mod Texts
 pub mod Strings
 pub mod Declared
 pub mod Characters
 pub mod Left
 pub mod Worths
+pub mod Values
 pub mod Steps
 pub mod Tables
 pub mod Specifying
@@ -49,3 +54,6 @@ pub mod Opening
 pub mod Whole
 pub mod Variables
 pub mod Signatures
+pub mod Levels
+pub mod Contents
+pub mod Assembled

@@ -1,5 +1,6 @@
 -- Before the first declaration all is lawful, and so is all behind the last one.
-use Rattle.std.proofs.Common.{◌≡◌, ℕ, ◌<◌, subst, List, [], arith}
+use Rattle.std.proofs.Common.{◌≡◌, ℕ, ◌<◌, false, subst, List, [], ◌∷◌, arith}
+use Rattle.eff_types.specs.Effects.{conflict}
 use Rattle.eff_types.specs.declared.levels.Effects.{Effects}
 use Rattle.c_tree.specs.declared.statements.Tree.{Tree}
 use Rattle.core_unit.specs.Typed.{Tables}
@@ -60,8 +61,9 @@ reserved_known : (u : Tables) → Each (λ entry. IsKnownEntity u entry.1) reser
 reserved_known u =
     (tt, (tt, (tt, (tt, (tt, (tt, (tt, (tt, (tt, (tt, (tt, (tt, (tt, (tt, (tt, (tt, (tt, (tt, (tt, (tt, tt))))))))))))))))))))
 
-pub opening_lawful : (source marks : List ℕ) (whole : List Effects) → Each (λ byte. byte < 256) source → Lawful (opening source marks whole)
-opening_lawful source marks whole bytes = record {
+pub opening_lawful : (source marks : List ℕ) (whole : List Effects) → Each (λ byte. byte < 256) source → Each (λ e. conflict (e ∷ []) ≡ false) whole
+    → Lawful (opening source marks whole)
+opening_lawful source marks whole bytes fits = record {
   bytes = bytes;
   scoped = omega arith;
   entities = (tt, (reserved_lawful, tt));
@@ -80,12 +82,21 @@ opening_lawful source marks whole bytes = record {
   };
   ranked = record { rank = λ k. 0; bound = 1; below = λ k. omega arith; falls = λ number. tt };
   variables_solid = tt;
+  objects_known = record {
+    static_row = record { each = tt; apart = tt };
+    thread_row = record { each = tt; apart = tt };
+    among = λ number info known. absurd (cc);
+    fewer = omega arith;
+  };
+  whole_fits = fits;
 }
 
 opening_filed : (source marks : List ℕ) (whole : List Effects) → IsFiled (opening source marks whole)
 opening_filed source marks whole = record {
   knows = λ u leads. (tt, (reserved_known u, tt));
   bodied = λ i f body e is few u leads. absurd (cc);
+  valued = λ short u leads small. (tt, tt);
+  defined = record { apart = tt; bodies = tt; all = λ number f body there is. absurd (cc) };
 }
 
 opening_sound : (source marks : List ℕ) (whole : List Effects) → IsSound (opening source marks whole)
@@ -100,10 +111,10 @@ variables_keep : VariablesKeep
 variables_keep d here s lawful makes none at = variable_left d here s lawful makes none at
 
 pub unit_is_read : (source marks : List ℕ) (whole : List Effects) (tree : Tree) (s : Seen) → Each (λ byte. byte < 256) source
-    → read_unit source marks whole tree ≡ Good tt s → IsRead s
-unit_is_read source marks whole tree s bytes is =
+    → Each (λ e. conflict (e ∷ []) ≡ false) whole → read_unit source marks whole tree ≡ Good tt s → IsRead s
+unit_is_read source marks whole tree s bytes fits is =
     of (read_unit source marks whole tree) is
-    (externals_left variables_keep tree.externals (opening source marks whole) (opening_lawful source marks whole bytes) (opening_sound source marks whole))
+    (externals_left variables_keep tree.externals (opening source marks whole) (opening_lawful source marks whole bytes fits) (opening_sound source marks whole))
   where
     of : (r : Read (Unit {0})) → r ≡ Good tt s → Left {A = Unit {0}} (λ a t. IsSound t) (opening source marks whole) r → IsRead s
     of (Bad number place) e h = absurd (cc)

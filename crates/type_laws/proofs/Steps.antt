@@ -89,6 +89,8 @@ lawful_declared s name e lawful entity = record {
   tags_lawful = lawful.tags_lawful;
   ranked = lawful.ranked;
   variables_solid = lawful.variables_solid;
+  objects_known = lawful.objects_known;
+  whole_fits = lawful.whole_fits;
 }
 
 -- A name is declared that had no meaning here before the rule was read.

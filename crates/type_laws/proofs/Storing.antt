@@ -13,6 +13,7 @@ use Rattle.type_rules.specs.Reading.{and_then}
 use Rattle.type_rules.specs.Seen.{Seen}
 use Rattle.type_rules.specs.declared.durations.Duration.{Duration}
 use Rattle.type_rules.specs.declared.durations.Duration.TheVariants.{Automatic as IsAutomatic, Static as IsStatic, ThreadLocal as IsThreadLocal}
+use Rattle.core_unit.specs.declared.tables.VariableInfo.{VariableInfo}
 use Rattle.type_rules.specs.declared.names.Entity.{Entity}
 use Rattle.type_rules.specs.declared.names.Entity.TheVariants.{Variable}
 use Rattle.type_laws.proofs.Converted.{within_tables}
@@ -20,10 +21,11 @@ use Rattle.type_laws.proofs.Formed.{IsFormed, stay_same}
 use Rattle.type_laws.proofs.Growing.{GrowsUnder, Grows, NoAutos, Standing, steady_same, grows_same}
 use Rattle.type_laws.proofs.Left.{Left, longer, gives_left}
 use Rattle.type_laws.proofs.Lists.{get_before, get_last}
+use Rattle.type_laws.proofs.Objects.{AreObjects, static_and_none, thread_and_none}
 use Rattle.type_laws.proofs.Scopes.{each_declared, here_same}
 use Rattle.type_laws.proofs.Steps.{lawful_declared}
 use Rattle.type_laws.proofs.Strings.{laid_out_more, stand_more}
-use Rattle.type_laws.proofs.Triples.{AreLaidOut, IsKnownEntity, Lawful, Leads, Knows}
+use Rattle.type_laws.proofs.Triples.{Each, AreLaidOut, IsKnownEntity, IsSolidVariable, Lawful, Leads, Knows}
 use Rattle.type_laws.proofs.Types.{is_object}
 
 stand_thread : (words n : ℕ) (objects : List Object) (variable : Option ℕ) → AreLaidOut 0 objects words → 0 < n
@@ -35,9 +37,14 @@ stand_thread words n objects variable stand some few =
     (laid_out_more 0 words n objects variable here some)
 
 -- a static or thread-local object more
-pub lawful_static : (s : Seen) (words : ℕ) (variable : Option ℕ) → Lawful s → 0 < words
-    → Lawful (record s { statics = s.statics ++ record { at = s.static_words + 1; words = words; variable = variable } ∷ []; static_words = told (s.static_words + words) })
-lawful_static s words variable lawful some = record {
+pub lawful_static : (s : Seen) (words : ℕ) (variable : Option ℕ) (variables : List VariableInfo) → Lawful s → 0 < words → Each (IsSolidVariable s.structures) variables
+    → AreObjects s.structures variables (s.statics ++ record { at = s.static_words + 1; words = words; variable = variable } ∷ []) s.thread_locals
+    → Lawful (record s {
+      statics = s.statics ++ record { at = s.static_words + 1; words = words; variable = variable } ∷ [];
+      static_words = told (s.static_words + words);
+      variables = variables;
+    })
+lawful_static s words variable variables lawful some solid objects = record {
   bytes = lawful.bytes;
   scoped = lawful.scoped;
   entities = lawful.entities;
@@ -51,12 +58,19 @@ lawful_static s words variable lawful some = record {
   threads_stand = lawful.threads_stand;
   tags_lawful = lawful.tags_lawful;
   ranked = lawful.ranked;
-  variables_solid = lawful.variables_solid;
+  variables_solid = solid;
+  objects_known = objects;
+  whole_fits = lawful.whole_fits;
 }
 
-pub lawful_thread : (s : Seen) (words : ℕ) (variable : Option ℕ) → Lawful s → 0 < words
-    → Lawful (record s { thread_locals = s.thread_locals ++ record { at = s.thread_words; words = words; variable = variable } ∷ []; thread_words = told (s.thread_words + words) })
-lawful_thread s words variable lawful some = record {
+pub lawful_thread : (s : Seen) (words : ℕ) (variable : Option ℕ) (variables : List VariableInfo) → Lawful s → 0 < words → Each (IsSolidVariable s.structures) variables
+    → AreObjects s.structures variables s.statics (s.thread_locals ++ record { at = s.thread_words; words = words; variable = variable } ∷ [])
+    → Lawful (record s {
+      thread_locals = s.thread_locals ++ record { at = s.thread_words; words = words; variable = variable } ∷ [];
+      thread_words = told (s.thread_words + words);
+      variables = variables;
+    })
+lawful_thread s words variable variables lawful some solid objects = record {
   bytes = lawful.bytes;
   scoped = lawful.scoped;
   entities = lawful.entities;
@@ -70,7 +84,9 @@ lawful_thread s words variable lawful some = record {
   threads_stand = stand_thread s.thread_words words s.thread_locals variable lawful.threads_stand some;
   tags_lawful = lawful.tags_lawful;
   ranked = lawful.ranked;
-  variables_solid = lawful.variables_solid;
+  variables_solid = solid;
+  objects_known = objects;
+  whole_fits = lawful.whole_fits;
 }
 
 -- an object of so many words is kept there
@@ -111,6 +127,7 @@ module _ (s : Seen) (lawful : Lawful s) (number : ℕ) (kind : CType) (words : �
           laid = λ u leads few. (refl, some, omega arith);
           tables = λ u leads small knows standing p.
               let there = automatic_there u standing in (known_in (Automatic s.frame) u leads knows there, there);
+          values = λ u leads small knows standing p v. v;
         };
         named = named_here s.scopes number (Variable kind (Automatic s.frame) None) (longer s.scopes lawful.scoped);
       };
@@ -128,7 +145,7 @@ module _ (s : Seen) (lawful : Lawful s) (number : ℕ) (kind : CType) (words : �
       outer_of (scope ∷ outer) e = refl
   block_kept_left IsStatic = record {
     holds = record {
-      lawful = lawful_declared after number (Variable kind (Static (s.static_words + 1)) None) (lawful_static s words None lawful some) (formed, solid);
+      lawful = lawful_declared after number (Variable kind (Static (s.static_words + 1)) None) (lawful_static s words None s.variables lawful some lawful.variables_solid (static_and_none s.structures s.variables s.statics s.thread_locals lawful.objects_known (s.static_words + 1) words)) (formed, solid);
       stay = stay_same s.structures;
       known = record {
         grows = record {
@@ -138,6 +155,7 @@ module _ (s : Seen) (lawful : Lawful s) (number : ℕ) (kind : CType) (words : �
           tables = λ u leads small knows standing p.
               let there = static_there u leads.begin in
               (known_in (Static (s.static_words + 1)) u (back u leads) knows there, there);
+          values = λ u leads small knows standing p v. v;
         };
         named = named_here s.scopes number (Variable kind (Static (s.static_words + 1)) None) (longer s.scopes lawful.scoped);
       };
@@ -168,7 +186,7 @@ module _ (s : Seen) (lawful : Lawful s) (number : ℕ) (kind : CType) (words : �
       outer_of (scope ∷ outer) e = refl
   block_kept_left IsThreadLocal = record {
     holds = record {
-      lawful = lawful_declared after number (Variable kind (ThreadLocal s.thread_words) None) (lawful_thread s words None lawful some) (formed, solid);
+      lawful = lawful_declared after number (Variable kind (ThreadLocal s.thread_words) None) (lawful_thread s words None s.variables lawful some lawful.variables_solid (thread_and_none s.structures s.variables s.statics s.thread_locals lawful.objects_known s.thread_words words)) (formed, solid);
       stay = stay_same s.structures;
       known = record {
         grows = record {
@@ -178,6 +196,7 @@ module _ (s : Seen) (lawful : Lawful s) (number : ℕ) (kind : CType) (words : �
           tables = λ u leads small knows standing p.
               let there = thread_there u leads.thread_begin in
               (known_in (ThreadLocal s.thread_words) u (back u leads) knows there, there);
+          values = λ u leads small knows standing p v. v;
         };
         named = named_here s.scopes number (Variable kind (ThreadLocal s.thread_words) None) (longer s.scopes lawful.scoped);
       };
@@ -227,6 +246,7 @@ module _ (v : Seen) (lawful : Lawful v) (number : ℕ) (kind t : CType) (storage
               (record { within = within_tables v u t leads formed; words = words; there = there; long = λ e. long u leads }),
           tt,
         );
+        values = λ u leads small knows standing p v. v;
       };
       outer = outer_of v.scopes;
       back = λ u leads. leads;

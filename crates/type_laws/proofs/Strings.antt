@@ -26,10 +26,14 @@ use Rattle.type_rules.specs.declared.found.Found.{Found}
 use Rattle.type_laws.proofs.Accessing.{object_keeps}
 use Rattle.type_laws.proofs.Formed.{IsFormed, stay_same}
 use Rattle.type_laws.proofs.Literals.{IsType, Nothing}
+use Rattle.type_laws.proofs.Each.{each_joined}
+use Rattle.type_laws.proofs.Objects.{static_and_none}
+use Rattle.type_laws.proofs.Texts.{text_bytes}
+use Rattle.type_laws.proofs.Valued.{IsValue, text_valued}
 use Rattle.type_laws.proofs.Operands.{IsFound, IsTypedFound, FormIsTyped}
 use Rattle.type_laws.proofs.Operations.{number_keeps}
 use Rattle.type_laws.proofs.Lists.{get_before, get_last}
-use Rattle.type_laws.proofs.Triples.{Each, AreLaidOut, Triple, Keeps, Always, Lawful, calm_same, then_keeps, refused_keeps}
+use Rattle.type_laws.proofs.Triples.{Each, AreLaidOut, Triple, Keeps, Always, Lawful, then_keeps, refused_keeps}
 use Rattle.type_laws.proofs.Typed as typed
 
 -- one object more
@@ -47,10 +51,10 @@ stand_more words n objects variable stand some few =
     (laid_out_more 1 (words + 1) n objects variable here some)
 
 -- an object of so many words, with what it holds at first
-pub object_kept : (pre : Tables → Type 0) (s : Seen) (bytes : List ℕ) → Lawful s
+pub object_kept : (pre : Tables → Type 0) (s : Seen) (bytes : List ℕ) → Each (λ byte. byte < 256) bytes → Lawful s
     → Triple pre (λ address t. Unit {0}) (λ address u. IsObject u.statics address (length bytes + 1)) s (string_object bytes s)
 unfolding string_object holds_initially and_then
-object_kept pre s bytes lawful = record {
+object_kept pre s bytes each lawful = record {
   holds = record {
     lawful = record {
       bytes = lawful.bytes;
@@ -66,6 +70,8 @@ object_kept pre s bytes lawful = record {
       tags_lawful = lawful.tags_lawful;
       ranked = lawful.ranked;
       variables_solid = lawful.variables_solid;
+      objects_known = static_and_none s.structures s.variables s.statics s.thread_locals lawful.objects_known (s.static_words + 1) (length bytes + 1);
+      whole_fits = lawful.whole_fits;
       statics_stand = stand_more s.static_words (length bytes + 1) s.statics None lawful.statics_stand (omega arith);
     };
     stay = stay_same s.structures;
@@ -78,7 +84,18 @@ object_kept pre s bytes lawful = record {
       thread_begin = leads.thread_begin;
     };
     begun = λ k begun. begun;
-    calm = calm_same s;
+    calm = record {
+      whole_is = refl;
+      functions_are = refl;
+      definitions_are = refl;
+      variables_are = refl;
+      thread_locals_are = refl;
+      thread_words_are = refl;
+      thread_values_are = refl;
+      values_kept = λ u h. each_joined (λ i. IsValue u i.word) s.static_values _ h (text_valued u (s.static_words + 1) bytes each);
+      frame_is = refl;
+      result_is = refl;
+    };
     here = λ n e is. is;
     old = λ n t' storage k is. is;
     tables = λ u leads knows p. (
@@ -128,7 +145,7 @@ found_as true s (Good f t) h = record {
 pub text_keeps : (strings : List Span) → Keeps Always IsFound (IsTypedFound false) (text strings)
 unfolding text text_found and_then
 text_keeps strings s lawful =
-    then_keeps s (string_object (text_in s.source strings) s) _ (object_kept Always s (text_in s.source strings) lawful) (λ address t t_lawful t_stay known.
+    then_keeps s (string_object (text_in s.source strings) s) _ (object_kept Always s (text_in s.source strings) (text_bytes s.source strings lawful.bytes) lawful) (λ address t t_lawful t_stay known.
     let n = length (text_in s.source strings) in
     object_keeps _ t (first_place strings) (array_of Char (n + 1)) (object.Text address (n + 1)) t_lawful (text_formed t n)
     (place_type-Text address (n + 1)) refl (text_not_arrow address (n + 1)) (λ u leads p. typed.typed-Text u address (n + 1) p.1))

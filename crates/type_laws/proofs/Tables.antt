@@ -12,10 +12,11 @@ use Rattle.type_rules.specs.Seen.{Seen}
 use Rattle.type_rules.specs.declared.names.Entity.{Entity}
 use Rattle.type_rules.specs.declared.names.Entity.TheVariants.{Variable, Function, TypeName, Enumerator, Library, NullPointer, MutexInitializer}
 use Rattle.type_rules.specs.declared.names.Tag.{Tag}
-use Rattle.type_laws.proofs.Each.{each_as, each_more, each_set}
+use Rattle.type_laws.proofs.Each.{each_as, each_get, each_more, each_set}
 use Rattle.type_laws.proofs.Formed.{Stay, StaysBy, StaysAs, OpenAreEmpty, CompleteHaveWords, formed_stays, words_stay}
 use Rattle.type_laws.proofs.Lists.{get_before, get_more, length_more, get_set, get_other, get_after_set}
 use Rattle.type_laws.proofs.Members.{members_words_stay}
+use Rattle.type_laws.proofs.Objects.{objects_stay}
 use Rattle.type_laws.proofs.Ranks.{ranked_more, ranked_set}
 use Rattle.type_laws.proofs.Tags.{HasNoMembers, TagsAreLawful, IsBegun, members_missing, lawful_more, lawful_set}
 use Rattle.type_laws.proofs.Triples.{Each, IsLawfulEntity, IsDeclared, IsLawfulMember, MembersAreLawful, AreSized, AreRankedSoFar, IsSolidVariable, Lawful}
@@ -52,7 +53,7 @@ lawful_structures s after sizes lawful stay empty complete members sized few tag
       each_as (λ entry. IsLawfulEntity s.structures (length s.functions) entry.1) (λ entry. IsLawfulEntity after (length s.functions) entry.1) scope
       (λ entry h. entity_stays s.structures after (length s.functions) entry.1 stay lawful.open_are_empty h) each) lawful.entities;
   functions_formed = each_as (IsDeclared s.structures) (IsDeclared after) s.functions
-      (λ f h. record { formed = formed_stays s.structures after (a_type.Function f.kind) stay lawful.open_are_empty h.formed }) lawful.functions_formed;
+      (λ f h. record { formed = formed_stays s.structures after (a_type.Function f.kind) stay lawful.open_are_empty h.formed; fits = h.fits; unframed = h.unframed }) lawful.functions_formed;
   open_are_empty = empty;
   complete_have_words = complete;
   members_lawful = members;
@@ -66,6 +67,10 @@ lawful_structures s after sizes lawful stay empty complete members sized few tag
     formed_stays s.structures after v.kind stay lawful.open_are_empty h.0,
     subst (λ words. 0 < words) (sym (words_stay s.structures after v.kind stay lawful.open_are_empty h.0 h.1)) h.1,
   )) lawful.variables_solid;
+  objects_known = objects_stay s.structures after s.variables s.statics s.thread_locals (λ number info known.
+      let h = each_get (IsSolidVariable s.structures) s.variables number info lawful.variables_solid known in
+      words_stay s.structures after info.kind stay lawful.open_are_empty h.0 h.1) lawful.objects_known;
+  whole_fits = lawful.whole_fits;
 }
 
 pub lawful_tags : (s : Seen) (tags : List (Scope Tag)) → Lawful s → TagsAreLawful s.structures tags → Lawful (record s { tags = tags })
@@ -84,6 +89,8 @@ lawful_tags s tags lawful h = record {
   tags_lawful = h;
   ranked = lawful.ranked;
   variables_solid = lawful.variables_solid;
+  objects_known = lawful.objects_known;
+  whole_fits = lawful.whole_fits;
 }
 
 stays_at : (s : StructInfo) (members : Option (List MemberInfo)) (after : Option StructInfo) → s.members ≡ members → after ≡ Some s → StaysBy members s after

@@ -1,8 +1,9 @@
 -- Triples: what a rule keeps of what was seen before it, and what is true of what it gives. What it gives is read with the tables of the whole
 -- unit, to which those that were seen lead: so what is typed stays typed, and no lemma moves a tree from one table to the next.
-use Rattle.std.proofs.Common.{◌≡◌, ℕ, ◌<◌, ◌+◌, ◌-◌, ◌^◌, Bool, true, false, refl, List, length, drop, slice_get, Option, Some, ◌∙◌}
+use Rattle.std.proofs.Common.{◌≡◌, ℕ, ◌<◌, ◌+◌, ◌-◌, ◌^◌, Bool, true, false, refl, List, [], ◌∷◌, length, drop, slice_get, Option, Some, None, ◌∙◌}
 use Rattle.std.specs.Prelude.{if◌then◌else◌}
 use Rattle.scopes.specs.Scope.{Scope, found_here}
+use Rattle.eff_types.specs.Effects.{conflict}
 use Rattle.eff_types.specs.declared.types.CType.{CType}
 use Rattle.eff_types.specs.declared.types.CType.TheVariants as a_type
 use Rattle.eff_types.specs.declared.levels.Effects.{Effects}
@@ -25,8 +26,10 @@ use Rattle.type_rules.specs.declared.notes.TypeWarning.{TypeWarning}
 pub use Rattle.type_laws.proofs.Each.{Each}
 use Rattle.type_laws.proofs.Formed.{IsFormed, Stay, OpenAreEmpty, CompleteHaveWords, stay_same, stay_twice}
 pub use Rattle.type_laws.proofs.Ranks.{IsLawfulMember, MembersAreLawful, AreSized, AreRankedSoFar}
+use Rattle.type_laws.proofs.Objects.{AreObjects}
 use Rattle.type_laws.proofs.Tags.{TagsAreLawful, IsBegun}
 use Rattle.type_laws.proofs.Types.{is_object}
+use Rattle.type_laws.proofs.Valued.{Valued}
 
 -- what is true of the meaning of a name, by what was seen
 abbrev pub IsLawfulEntity : List StructInfo → ℕ → Entity → Type 0
@@ -53,13 +56,16 @@ AreLaidOut first objects words = words < 2 ^ 32 - 1 → LaidOut first objects (f
 -- a function as it was declared so far
 pub record IsDeclared (structures : List StructInfo) (f : FunctionInfo) : Type 0 where
   pub formed : IsFormed structures (a_type.Function f.kind)
+  -- its flags allow its level
+  pub fits : conflict (f.kind.effects ∷ []) ≡ false
+  pub unframed : f.body ≡ None → f.frame_words ≡ 0
 
 -- a variable of file scope has a complete type
 abbrev pub IsSolidVariable : List StructInfo → VariableInfo → Type 0
 IsSolidVariable structures v = IsFormed structures v.kind × (0 < words_of structures v.kind)
 
 -- what is true of all that was seen
-pub record IsLawful (source : List ℕ) (scopes : List (Scope Entity)) (tags : List (Scope Tag)) (functions : List FunctionInfo) (structures : List StructInfo) (sizes : List ℕ)
+pub record IsLawful (whole : List Effects) (source : List ℕ) (scopes : List (Scope Entity)) (tags : List (Scope Tag)) (functions : List FunctionInfo) (structures : List StructInfo) (sizes : List ℕ)
     (statics : List Object) (static_words : ℕ) (thread_locals : List Object) (thread_words : ℕ)
     (variables : List VariableInfo) : Type 0 where
   pub bytes : Each (λ byte. byte < 256) source
@@ -77,9 +83,11 @@ pub record IsLawful (source : List ℕ) (scopes : List (Scope Entity)) (tags : L
   pub tags_lawful : TagsAreLawful structures tags
   pub ranked : AreRankedSoFar structures
   pub variables_solid : Each (IsSolidVariable structures) variables
+  pub objects_known : AreObjects structures variables statics thread_locals
+  pub whole_fits : Each (λ e. conflict (e ∷ []) ≡ false) whole
 
 abbrev pub Lawful : Seen → Type 0
-Lawful s = IsLawful s.source s.scopes s.tags s.functions s.structures s.sizes s.statics s.static_words s.thread_locals s.thread_words s.variables
+Lawful s = IsLawful s.whole s.source s.scopes s.tags s.functions s.structures s.sizes s.statics s.static_words s.thread_locals s.thread_words s.variables
 
 -- a list of which each item stands in the other at the same index
 abbrev pub Begins : {A : Type 0} → List A → List A → Type 0
@@ -107,7 +115,7 @@ Knows s u = EachEntity (IsKnownEntity u) s.scopes
 -- what only declarations change, and blocks
 pub record IsCalm (whole whole' : List Effects) (functions functions' : List FunctionInfo) (definitions definitions' : List ℕ)
     (variables variables' : List VariableInfo) (thread_locals thread_locals' : List Object) (thread_words thread_words' : ℕ)
-    (thread_values thread_values' : List Initial) (frame frame' : ℕ) (result result' : CType) : Type 0 where
+    (thread_values thread_values' static_values static_values' : List Initial) (frame frame' : ℕ) (result result' : CType) : Type 0 where
   pub whole_is : whole' ≡ whole
   pub functions_are : functions' ≡ functions
   pub definitions_are : definitions' ≡ definitions
@@ -115,13 +123,15 @@ pub record IsCalm (whole whole' : List Effects) (functions functions' : List Fun
   pub thread_locals_are : thread_locals' ≡ thread_locals
   pub thread_words_are : thread_words' ≡ thread_words
   pub thread_values_are : thread_values' ≡ thread_values
+  -- what is noted of static words are values
+  pub values_kept : (u : Tables) → Valued u static_values → Valued u static_values'
   pub frame_is : frame' ≡ frame
   pub result_is : result' ≡ result
 
 abbrev pub Calm : Seen → Seen → Type 0
 Calm s t =
     IsCalm s.whole t.whole s.functions t.functions s.definitions t.definitions s.variables t.variables s.thread_locals t.thread_locals
-    s.thread_words t.thread_words s.thread_values t.thread_values s.frame t.frame s.result t.result
+    s.thread_words t.thread_words s.thread_values t.thread_values s.static_values t.static_values s.frame t.frame s.result t.result
 
 pub calm_same : (s : Seen) → Calm s s
 calm_same s = record {
@@ -132,6 +142,7 @@ calm_same s = record {
   thread_locals_are = refl;
   thread_words_are = refl;
   thread_values_are = refl;
+  values_kept = λ u h. h;
   frame_is = refl;
   result_is = refl;
 }
@@ -145,6 +156,7 @@ calm_twice s t v p q = record {
   thread_locals_are = q.thread_locals_are ∙ p.thread_locals_are;
   thread_words_are = q.thread_words_are ∙ p.thread_words_are;
   thread_values_are = q.thread_values_are ∙ p.thread_values_are;
+  values_kept = λ u h. q.values_kept u (p.values_kept u h);
   frame_is = q.frame_is ∙ p.frame_is;
   result_is = q.result_is ∙ p.result_is;
 }

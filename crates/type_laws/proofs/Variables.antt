@@ -1,5 +1,5 @@
 -- Variables of file scope keep what is true there.
-use Rattle.std.proofs.Common.{◌≡◌, ℕ, ◌<◌, ◌+◌, Bool, true, false, refl, sym, ◌∙◌, ap, subst, List, [], ◌∷◌, ◌++◌, drop, length, slice_get, Option, Some, None, arith, eqb-true, ne_eqb, zero-mul, ◌*◌, inl, inr}
+use Rattle.std.proofs.Common.{◌≡◌, ℕ, ◌<◌, ◌-◌, ◌^◌, ◌+◌, Bool, true, false, refl, sym, ◌∙◌, ap, subst, List, [], ◌∷◌, ◌++◌, drop, length, slice_get, Option, Some, None, arith, eqb-true, ne_eqb, zero-mul, ◌*◌, inl, inr}
 use Rattle.std.proofs.lemmas.Bool.{eqb-false}
 use Rattle.std.specs.Prelude.{not, ◌&&◌, ◌||◌, ◌⊎◌, nat_eq, is_some, slice_set, if◌then◌else◌}
 use Rattle.scopes.specs.Scope.{Scope, found_here, declare}
@@ -25,20 +25,25 @@ use Rattle.type_rules.specs.Seen.{Seen}
 use Rattle.type_rules.specs.Storage.{kept_for, initially}
 use Rattle.type_rules.specs.declared.durations.Duration.{Duration}
 use Rattle.type_rules.specs.declared.durations.Duration.TheVariants.{Static as IsStatic, ThreadLocal as IsThreadLocal}
-use Rattle.type_laws.proofs.Blocks.{unsized_is_object, sized_formed}
+use Rattle.type_laws.proofs.Valued.{IsValue, Valued}
+use Rattle.type_laws.proofs.Values.{initializer_valued}
+use Rattle.type_laws.proofs.Growing.{IsSmall, calm_values}
+use Rattle.type_laws.proofs.Blocks.{kept_small, unsized_is_object, sized_formed}
 use Rattle.type_laws.proofs.Strides.{has_words}
 use Rattle.type_rules.specs.declared.names.Entity.{Entity}
 use Rattle.type_rules.specs.declared.names.Entity.TheVariants.{Variable, Function, TypeName, Enumerator, Library, NullPointer, MutexInitializer}
 use Rattle.type_rules.specs.declared.notes.Initial.{Initial}
 use Rattle.type_laws.proofs.Converted.{within_tables}
-use Rattle.type_laws.proofs.Each.{each_get, each_more, each_set}
+use Rattle.type_laws.proofs.Definitions.{AreDefined}
+use Rattle.type_laws.proofs.Each.{each_get, each_joined, each_more, each_set}
 use Rattle.type_laws.proofs.FileScope.{IsSound}
 use Rattle.type_laws.proofs.Formed.{IsFormed, stay_same, words_stay}
 use Rattle.type_laws.proofs.Lists.{get_before, get_last, get_inside, get_set, get_other}
-use Rattle.type_laws.proofs.Functions.{IsFiled, VariableIs}
+use Rattle.type_laws.proofs.Functions.{AreShort, IsFiled, VariableIs}
 use Rattle.type_laws.proofs.Initializing.{IsSolid, solid_stays, Fills, Anything, initialized_keeps}
 use Rattle.type_laws.proofs.Left.{Left, longer, then_left, gives_left, fails_left, left_of}
 use Rattle.type_laws.proofs.Naming.{in_scope}
+use Rattle.type_laws.proofs.Objects.{AreObjects, objects_changed, static_and_new, thread_and_new}
 use Rattle.type_laws.proofs.Scopes.{each_declared, here_before}
 use Rattle.type_laws.proofs.Steps.{lawful_declared, faults_left}
 use Rattle.type_laws.proofs.Declared.{MakesFormed}
@@ -48,52 +53,82 @@ use Rattle.type_laws.proofs.Triples.{Each, EachEntity, IsKnownEntity, IsSolidVar
 use Rattle.type_laws.proofs.Types.{is_object}
 
 -- what an initializer leaves at file scope
-record IsAfter (w v : Seen) : Type 0 where
-  filed : IsFiled w → IsFiled v
+record IsAfter (s w v : Seen) : Type 0 where
+  filed : IsSound s → IsFiled w → IsFiled v
   here : (name : ℕ) (e : Entity) → found_here w.scopes name ≡ Some e → found_here v.scopes name ≡ Some e
   old : (name : ℕ) (t : CType) (storage : Storage) (n : Option ℕ) → found_here v.scopes name ≡ Some (Variable t storage n) → found_here w.scopes name ≡ Some (Variable t storage n)
   variables_are : v.variables ≡ w.variables
 
-after_made : (t : CType) (w : Seen) (i : Initializer) (v : Seen) → Made Always Anything (Fills t) w i v → IsAfter w v
-after_made t w i v h = record {
-  filed = λ filed. record {
+after_made : (s : Seen) (t : CType) (w : Seen) (i : Initializer) (v : Seen) → Made Always Anything (Fills t) w i v → IsAfter s w v
+after_made s t w i v h = record {
+  filed = λ sound filed. record {
     knows = λ u leads. (h.tables u leads (filed.knows u (h.back u leads)) tt).0;
     bodied = λ k f body known is few u leads. filed.bodied k f body (ap (λ fs. slice_get fs k) (sym h.calm.functions_are) ∙ known) is few u (h.back u leads);
+    valued = λ short u leads small. calm_values w v h.calm u (filed.valued (subst AreShort h.calm.functions_are short) u (h.back u leads) small);
+    defined = subst (λ fs. AreDefined fs v.definitions) (sym h.calm.functions_are) (subst (AreDefined w.functions) (sym h.calm.definitions_are) filed.defined);
   };
   here = h.here;
   old = h.old;
   variables_are = h.calm.variables_are;
 }
 
-valued_after : (w v : Seen) (storage : Storage) (values : List Initial) → Lawful v → IsAfter w v → Left (λ (a : Unit {0}) x. IsAfter w x) v (initially storage values v)
-valued_after w v (Automatic offset) values lawful h = gives_left _ v tt lawful h
-valued_after w v (Static address) values lawful h = record {
+valued_after : (s w v : Seen) (storage : Storage) (values : List Initial) → Lawful v → IsAfter s w v
+    → (IsSound s → IsFiled w → (u : Tables) → Leads v u → IsSmall u → Valued u values) → Left (λ (a : Unit {0}) x. IsAfter s w x) v (initially storage values v)
+valued_after s w v (Automatic offset) values lawful h told = gives_left _ v tt lawful h
+valued_after s w v (Static address) values lawful h told = record {
   holds = record {
     lawful = lawful;
     stay = stay_same v.structures;
-    known = record { filed = λ f. let g = h.filed f in record { knows = g.knows; bodied = g.bodied }; here = h.here; old = h.old; variables_are = h.variables_are };
+    known = record {
+      filed = λ sound f.
+          let g = h.filed sound f in
+          record {
+            knows = g.knows;
+            bodied = g.bodied;
+            valued = λ short u leads small. let old = g.valued short u leads small in (each_joined (λ x. IsValue u x.word) v.static_values values old.0 (told sound f u leads small), old.1);
+            defined = g.defined;
+          };
+      here = h.here;
+      old = h.old;
+      variables_are = h.variables_are;
+    };
     outer = refl;
     back = λ u leads. leads;
     begun = λ k begun. begun;
   };
 }
-valued_after w v (ThreadLocal offset) values lawful h = record {
+valued_after s w v (ThreadLocal offset) values lawful h told = record {
   holds = record {
     lawful = lawful;
     stay = stay_same v.structures;
-    known = record { filed = λ f. let g = h.filed f in record { knows = g.knows; bodied = g.bodied }; here = h.here; old = h.old; variables_are = h.variables_are };
+    known = record {
+      filed = λ sound f.
+          let g = h.filed sound f in
+          record {
+            knows = g.knows;
+            bodied = g.bodied;
+            valued = λ short u leads small. let old = g.valued short u leads small in (old.0, each_joined (λ x. IsValue u x.word) v.thread_values values old.1 (told sound f u leads small));
+            defined = g.defined;
+          };
+      here = h.here;
+      old = h.old;
+      variables_are = h.variables_are;
+    };
     outer = refl;
     back = λ u leads. leads;
     begun = λ k begun. begun;
   };
 }
 
-statically_left : (given : Option Init) (t : CType) (storage : Storage) (w : Seen) → Lawful w → IsSolid w.structures t → Left (λ (a : Unit {0}) v. IsAfter w v) w (statically given t storage w)
+statically_left : (s : Seen) (given : Option Init) (t : CType) (storage : Storage) (w : Seen) → Lawful w → IsSolid w.structures t
+    → (IsSound s → (u : Tables) → Leads w u → IsSmall u → words_of u.structures t < 2 ^ 32 - 1) → Left (λ (a : Unit {0}) v. IsAfter s w v) w (statically given t storage w)
 unfolding and_then
-statically_left None t storage w lawful solid = gives_left _ w tt lawful (record { filed = λ f. f; here = λ n e is. is; old = λ n u st k is. is; variables_are = refl })
-statically_left (Some i) t storage w lawful solid =
+statically_left s None t storage w lawful solid fits =
+    gives_left _ w tt lawful (record { filed = λ sound f. f; here = λ n e is. is; old = λ n u st k is. is; variables_are = refl })
+statically_left s (Some i) t storage w lawful solid fits =
     then_left w (initialized true t i w) _ (left_of Always Anything (Fills t) w (initialized true t i w) (initialized_keeps i true t w lawful solid)) (λ x v h.
-    valued_after w v storage (initial_values (where_in storage) x) h.lawful (after_made t w x v h.known))
+    valued_after s w v storage (initial_values (where_in storage) x) h.lawful (after_made s t w x v h.known) (λ sound filed u leads small.
+    initializer_valued u t (where_in storage) x ((h.known.tables u leads (filed.knows u (h.back u leads)) tt).1 (fits sound u (h.back u leads) small)).0))
 
 -- A variable of file scope has its object, and awaits its initializer.
 record IsReady (s : Seen) (number : ℕ) (unsized : Bool) (t kind : CType) (storage : Storage) (n : ℕ) (w : Seen) : Type 0 where
@@ -106,7 +141,7 @@ record IsReady (s : Seen) (number : ℕ) (unsized : Bool) (t kind : CType) (stor
   typed : IsSound s → unsized ≡ false → kind ≡ t
 
 module _ (s : Seen) (number : ℕ) (t kind : CType) (storage : Storage) (n : ℕ) (w : Seen) (unsized : Bool) (ready : IsReady s number unsized t kind storage n w)
-    (v : Seen) (lawful : Lawful v) (h : IsAfter w v) (back : (u : Tables) → Leads v u → Leads w u) (formed : IsFormed v.structures t) (solid : is_object t ≡ true) where
+    (v : Seen) (lawful : Lawful v) (h : IsAfter s w v) (back : (u : Tables) → Leads v u → Leads w u) (formed : IsFormed v.structures t) (solid : is_object t ≡ true) where
   other_agrees : IsSound s → (name : ℕ) (u : CType) (at : Storage) (m : ℕ) → nat_eq name number ≡ false → found_here v.scopes name ≡ Some (Variable u at (Some m)) → VariableIs v.variables m u
   other_agrees sound name u at m other is = subst (λ vs. VariableIs vs m u) (sym h.variables_are) (ready.others sound name u at m other (h.old name u at (Some m) is))
 
@@ -122,7 +157,7 @@ module _ (s : Seen) (number : ℕ) (t kind : CType) (storage : Storage) (n : ℕ
   -- it has the size that it was declared with
   kept_sound : unsized ≡ false → IsSound s → IsSound v
   kept_sound plain sound = record {
-    filed = h.filed (ready.filed sound);
+    filed = h.filed sound (ready.filed sound);
     agrees = λ name u at m is. of name u at m is (nat_eq name number) refl;
   }
     where
@@ -141,8 +176,10 @@ module _ (s : Seen) (number : ℕ) (t kind : CType) (storage : Storage) (n : ℕ
   sized_sound : IsSound s → IsSound sized_in
   sized_sound sound = record {
     filed = record {
-      knows = λ u leads. each_declared (IsKnownEntity u) v.scopes number (Variable t storage (Some n)) ((h.filed (ready.filed sound)).knows u leads) (kept u leads);
-      bodied = (h.filed (ready.filed sound)).bodied;
+      knows = λ u leads. each_declared (IsKnownEntity u) v.scopes number (Variable t storage (Some n)) ((h.filed sound (ready.filed sound)).knows u leads) (kept u leads);
+      bodied = (h.filed sound (ready.filed sound)).bodied;
+      valued = (h.filed sound (ready.filed sound)).valued;
+      defined = (h.filed sound (ready.filed sound)).defined;
     };
     agrees = λ name u at m is. of name u at m (here_before v.scopes number (Variable t storage (Some n)) name (Variable u at (Some m)) is);
   }
@@ -183,12 +220,14 @@ ready_left : (s : Seen) (number : ℕ) (t kind : CType) (storage : Storage) (n :
     → Left {A = Unit {0}} (λ a x. IsSound s → IsSound x) w (and_then (statically given t storage w) (λ _ v. array_completed number t unsized v))
 unfolding and_then
 ready_left s number t kind storage n given unsized w lawful ready solid object =
-    then_left w (statically given t storage w) _ (statically_left given t storage w lawful solid) (λ a v h.
+    then_left w (statically given t storage w) _ (statically_left s given t storage w lawful solid (λ sound u leads small.
+    let there = ready.there sound u leads in subst (λ n. n < 2 ^ 32 - 1) there.2 (kept_small storage there.0 u small there.1))) (λ a v h.
     completed_left s number t kind storage n w unsized ready v h.lawful h.known h.back (solid_stays w v t h.stay lawful.open_are_empty solid).formed object unsized refl)
 
 -- variables more, or changed
-lawful_variables : (s : Seen) (variables : List VariableInfo) → Lawful s → Each (IsSolidVariable s.structures) variables → Lawful (record s { variables = variables })
-lawful_variables s variables lawful each = record {
+lawful_variables : (s : Seen) (variables : List VariableInfo) → Lawful s → Each (IsSolidVariable s.structures) variables
+    → AreObjects s.structures variables s.statics s.thread_locals → Lawful (record s { variables = variables })
+lawful_variables s variables lawful each objects = record {
   bytes = lawful.bytes;
   scoped = lawful.scoped;
   entities = lawful.entities;
@@ -203,6 +242,8 @@ lawful_variables s variables lawful each = record {
   tags_lawful = lawful.tags_lawful;
   ranked = lawful.ranked;
   variables_solid = each;
+  objects_known = objects;
+  whole_fits = lawful.whole_fits;
 }
 
 -- what a declaration of a variable leaves
@@ -216,7 +257,7 @@ record IsPlaced (s : Seen) (number : ℕ) (unsized : Bool) (t : CType) (storage 
 -- the first declaration
 module _ (s : Seen) (statics : List Object) (static_words : ℕ) (thread_locals : List Object) (thread_words : ℕ) (storage : Storage) (number : ℕ) (kind t : CType) (new : VariableInfo)
     (new_is : new.kind ≡ t) (lawful_s : Lawful s)
-    (lawful : Lawful (record s { statics = statics; static_words = static_words; thread_locals = thread_locals; thread_words = thread_words }))
+    (lawful : Lawful (record s { statics = statics; static_words = static_words; thread_locals = thread_locals; thread_words = thread_words; variables = s.variables ++ new ∷ [] }))
     (back : (u : Tables) → Leads (record s { statics = statics; static_words = static_words; thread_locals = thread_locals; thread_words = thread_words }) u → Leads s u)
     (there : (u : Tables) → Leads (record s { statics = statics; static_words = static_words; thread_locals = thread_locals; thread_words = thread_words }) u
     → IsThere storage (words_of s.structures t) u)
@@ -241,10 +282,7 @@ module _ (s : Seen) (statics : List Object) (static_words : ℕ) (thread_locals 
   placed_lawful : Lawful placed
   placed_lawful =
       lawful_declared (record s { statics = statics; static_words = static_words; thread_locals = thread_locals; thread_words = thread_words; variables = s.variables ++ new ∷ [] }) number
-      (Variable kind storage (Some (length s.variables)))
-      (lawful_variables (record s { statics = statics; static_words = static_words; thread_locals = thread_locals; thread_words = thread_words }) (s.variables ++ new ∷ []) lawful
-      (each_more (IsSolidVariable s.structures) s.variables new lawful_s.variables_solid
-      (subst (IsFormed s.structures) (sym new_is) solid.formed, subst (λ x. 0 < words_of s.structures x) (sym new_is) solid.some))) (kind_formed, kind_object)
+      (Variable kind storage (Some (length s.variables))) lawful (kind_formed, kind_object)
 
   placed_ready : IsReady s number (is_unsized kind) t kind storage (length s.variables) placed
   placed_ready = record {
@@ -252,6 +290,8 @@ module _ (s : Seen) (statics : List Object) (static_words : ℕ) (thread_locals 
     filed = λ sound. record {
       knows = λ u leads. each_declared (IsKnownEntity u) s.scopes number (Variable kind storage (Some (length s.variables))) (sound.filed.knows u (to_s u leads)) (kept u leads);
       bodied = λ i f body known is few u leads. sound.filed.bodied i f body known is few u (to_s u leads);
+      valued = λ short u leads small. sound.filed.valued short u (to_s u leads) small;
+      defined = sound.filed.defined;
     };
     there = λ sound u leads. (words_of s.structures t, there u leads, long_at u (to_s u leads));
     others = λ sound name u at m other is. of sound name u at m other (here_before s.scopes number (Variable kind storage (Some (length s.variables))) name (Variable u at (Some m)) is);
@@ -322,7 +362,8 @@ here_is P (scope ∷ outer) name e each is = in_scope P scope name e each.0 is
 
 -- a further declaration
 module _ (s : Seen) (lawful : Lawful s) (number : ℕ) (unsized : Bool) (kind t : CType) (storage : Storage) (n : ℕ) (info new : VariableInfo)
-    (named : found_here s.scopes number ≡ Some (Variable kind storage (Some n))) (known : slice_get s.variables n ≡ Some info) (is : info.kind ≡ t) (new_is : new.kind ≡ info.kind) where
+    (named : found_here s.scopes number ≡ Some (Variable kind storage (Some n))) (known : slice_get s.variables n ≡ Some info) (is : info.kind ≡ t) (new_is : new.kind ≡ info.kind)
+    (thread_is : new.thread_local ≡ info.thread_local) where
   abbrev changed : Seen
   changed = record s { variables = slice_set s.variables n new }
 
@@ -356,7 +397,7 @@ module _ (s : Seen) (lawful : Lawful s) (number : ℕ) (unsized : Bool) (kind t 
   changed_ready : IsReady s number unsized t kind storage n changed
   changed_ready = record {
     named = named;
-    filed = λ sound. record { knows = sound.filed.knows; bodied = sound.filed.bodied };
+    filed = λ sound. record { knows = sound.filed.knows; bodied = sound.filed.bodied; valued = sound.filed.valued; defined = sound.filed.defined };
     there = λ sound u leads.
         let kept = here_is (IsKnownEntity u) s.scopes number (Variable kind storage (Some n)) (sound.filed.knows u leads) named in
         let same = kind_is sound in
@@ -372,7 +413,8 @@ module _ (s : Seen) (lawful : Lawful s) (number : ℕ) (unsized : Bool) (kind t 
     holds = record {
       lawful = lawful_variables s changed.variables lawful
           (each_set (IsSolidVariable s.structures) s.variables n new lawful.variables_solid
-          (subst (IsFormed s.structures) (sym (new_is ∙ is)) solid_here.formed, subst (λ x. 0 < words_of s.structures x) (sym (new_is ∙ is)) solid_here.some));
+          (subst (IsFormed s.structures) (sym (new_is ∙ is)) solid_here.formed, subst (λ x. 0 < words_of s.structures x) (sym (new_is ∙ is)) solid_here.some))
+          (objects_changed s.structures s.variables s.statics s.thread_locals n info new known new_is thread_is lawful.objects_known);
       stay = stay_same s.structures;
       known = record { kind = kind; n = n; ready = changed_ready; solid = solid_here; object = object_of_words s.structures t solid_here.some };
       outer = refl;
@@ -402,12 +444,16 @@ module _ (d : Named) (s : Seen) (lawful : Lawful s) (makes : MakesFormed d.made 
     scopes = declare u.scopes d.number (Variable d.made.kind storage (Some (length s.variables)));
   }))
 
-  kept_placed : (thread : Bool) → IsFormed s.structures d.made.kind → is_object d.made.kind ≡ true → IsSolid s.structures t → is_object t ≡ true
+  solid_with_new : IsSolid s.structures t → Each (IsSolidVariable s.structures) (s.variables ++ new_variable s.source ∷ [])
+  solid_with_new solid = each_more (IsSolidVariable s.structures) s.variables (new_variable s.source) lawful.variables_solid (solid.formed, solid.some)
+
+  kept_placed : (thread : Bool) → d.specifiers.is_thread_local ≡ thread → IsFormed s.structures d.made.kind → is_object d.made.kind ≡ true → IsSolid s.structures t → is_object t ≡ true
       → Placing (kept_in (if thread then IsThreadLocal else IsStatic))
   unfolding and_then
-  kept_placed false kind_formed kind_object solid object =
+  kept_placed false thread_is kind_formed kind_object solid object =
       placed_left s _ _ s.thread_locals s.thread_words (Static (s.static_words + 1)) d.number d.made.kind t (new_variable s.source) refl lawful
-      (lawful_static s (words_of s.structures t) (Some (length s.variables)) lawful solid.some)
+      (lawful_static s (words_of s.structures t) (Some (length s.variables)) (s.variables ++ new_variable s.source ∷ []) lawful solid.some (solid_with_new solid)
+      (static_and_new s.structures s.variables s.statics s.thread_locals lawful.objects_known (s.static_words + 1) (words_of s.structures t) (new_variable s.source) refl thread_is))
       (λ u leads. record { named = leads.named; stay = leads.stay; begin = λ i x e. leads.begin i x (get_before s.statics _ i x e); thread_begin = leads.thread_begin })
       (λ u leads. record {
         index = length s.statics;
@@ -417,9 +463,10 @@ module _ (d : Named) (s : Seen) (lawful : Lawful s) (makes : MakesFormed d.made 
         long = refl;
         some = solid.some;
       }) kind_formed kind_object solid object same_kind
-  kept_placed true kind_formed kind_object solid object =
+  kept_placed true thread_is kind_formed kind_object solid object =
       placed_left s s.statics s.static_words _ _ (ThreadLocal s.thread_words) d.number d.made.kind t (new_variable s.source) refl lawful
-      (lawful_thread s (words_of s.structures t) (Some (length s.variables)) lawful solid.some)
+      (lawful_thread s (words_of s.structures t) (Some (length s.variables)) (s.variables ++ new_variable s.source ∷ []) lawful solid.some (solid_with_new solid)
+      (thread_and_new s.structures s.variables s.statics s.thread_locals lawful.objects_known s.thread_words (words_of s.structures t) (new_variable s.source) refl thread_is))
       (λ u leads. record { named = leads.named; stay = leads.stay; begin = leads.begin; thread_begin = λ i x e. leads.thread_begin i x (get_before s.thread_locals _ i x e) })
       (λ u leads. record {
         index = length s.thread_locals;
@@ -438,7 +485,7 @@ module _ (d : Named) (s : Seen) (lawful : Lawful s) (makes : MakesFormed d.made 
       let formed = formed_as kind_formed in
       let complete = or_second d.made.incomplete (is_incomplete s.structures t) e in
       let object = complete_object s.structures t plain complete in
-      of d.specifiers.is_thread_local (kept_placed d.specifiers.is_thread_local kind_formed (either (is_unsized d.made.kind) refl object)
+      of d.specifiers.is_thread_local (kept_placed d.specifiers.is_thread_local refl kind_formed (either (is_unsized d.made.kind) refl object)
       (record { formed = formed; some = has_words s.structures t lawful.complete_have_words formed plain complete }) object))
     where
       either : (test : Bool) → is_unsized d.made.kind ≡ test → is_object t ≡ true → is_object d.made.kind ≡ true
@@ -461,7 +508,7 @@ module _ (d : Named) (s : Seen) (lawful : Lawful s) (makes : MakesFormed d.made 
       faults_left s (v.initialized && is_some d.init) (is_mistyped d.made || not (same v.kind t) || not (same_words v.thread_local d.specifiers.is_thread_local)) d.made.conflicting
       d.made.incomplete d.name.start _ (λ a b c e.
       changed_left s lawful d.number (is_unsized d.made.kind) kind t storage n v _ named known
-      (same-eq v.kind t (not_false (same v.kind t) (second_of_three (is_mistyped d.made) (not (same v.kind t)) (not (same_words v.thread_local d.specifiers.is_thread_local)) b))) refl)
+      (same-eq v.kind t (not_false (same v.kind t) (second_of_three (is_mistyped d.made) (not (same v.kind t)) (not (same_words v.thread_local d.specifiers.is_thread_local)) b))) refl refl)
     where
       second_of_three : (a b c : Bool) → a || b || c ≡ false → b ≡ false
       second_of_three true b c e = absurd (cc)

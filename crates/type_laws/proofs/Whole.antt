@@ -24,7 +24,7 @@ use Rattle.type_laws.proofs.Each.{each_as}
 use Rattle.type_laws.proofs.Filling.{all_of_each}
 use Rattle.type_laws.proofs.Formed.{stay_same, within_of_formed}
 use Rattle.type_laws.proofs.Functions.{in_frame}
-use Rattle.type_laws.proofs.Growing.{IsSmall}
+use Rattle.type_laws.proofs.Growing.{IsSmall, object_within}
 use Rattle.type_laws.proofs.Opening.{IsRead}
 use Rattle.type_laws.proofs.Triples.{IsLawfulMember, Lawful, Leads}
 
@@ -89,10 +89,19 @@ pub same_result : (o : Option Effects) (k : FnType) → (effects_at o k).result 
 same_result (Some e) k = refl
 same_result None k = refl
 
--- what was seen leads to the tables of the unit
-pub leads_whole : (s : Seen) (g : FunctionInfo) (body : Body) → Leads s (tables_of (parts_of s) g body)
-unfolding parts_of
-leads_whole s g body = record {
+-- the tables of the unit, with a frame
+abbrev pub whole_tables : Seen → List Object → Tables
+whole_tables s frame = record {
+  functions = with_whole s.whole 0 s.functions;
+  structures = s.structures;
+  statics = s.statics;
+  thread_locals = s.thread_locals;
+  frame = frame;
+}
+
+-- what was seen leads to them
+pub leads_with : (s : Seen) (frame : List Object) → Leads s (whole_tables s frame)
+leads_with s frame = record {
   named = λ i f there. record {
     info = in_whole s.whole i f;
     static = effects_at (slice_get s.whole i) f.kind;
@@ -107,18 +116,9 @@ leads_whole s g body = record {
   thread_begin = λ i x e. e;
 }
 
--- each object of a row is within it
-object_within : (first last : ℕ) (objects : List Object) (i : ℕ) (o : Object) → LaidOut first objects last → slice_get objects i ≡ Some o → first + o.words ≤ last
-object_within first last [] i o laid there = absurd (cc)
-object_within first last (x ∷ xs) zero o laid there =
-    let same : x ≡ o = cc in
-    let rest = ends_behind (first + x.words) last xs laid.2 in
-    subst (λ (y : Object). first + y.words ≤ last) same rest
-  where
-    ends_behind : (first last : ℕ) (objects : List Object) → LaidOut first objects last → first ≤ last
-    ends_behind first last [] laid = omega arith
-    ends_behind first last (x ∷ xs) laid = let rest = ends_behind (first + x.words) last xs laid.2 in omega arith
-object_within first last (x ∷ xs) (suc i) o laid there = let rest = object_within (first + x.words) last xs i o laid.2 there in omega arith
+pub leads_whole : (s : Seen) (g : FunctionInfo) (body : Body) → Leads s (tables_of (parts_of s) g body)
+unfolding parts_of
+leads_whole s g body = leads_with s (frame_of s.structures g.kind.params body)
 
 pub statics_laid : (s : Seen) → Lawful s → IsWithinLimits s → LaidOut 1 s.statics (1 + s.static_words)
 statics_laid s lawful limits = lawful.statics_stand (let few = limits.static_words in omega arith)
@@ -177,3 +177,8 @@ structures_ranked s lawful = record { rank = lawful.ranked.rank; falls = λ numb
 pub words_told : (first n : ℕ) (values : List Initial) → length (words_from first n values) ≡ n
 words_told first zero values = refl
 words_told first (suc n) values = ap suc (words_told (first + 1) n values)
+
+-- as many functions as were seen
+pub whole_length : (whole : List Effects) (n : ℕ) (fs : List FunctionInfo) → length (with_whole whole n fs) ≡ length fs
+whole_length whole n [] = refl
+whole_length whole n (f ∷ fs) = ap suc (whole_length whole (n + 1) fs)

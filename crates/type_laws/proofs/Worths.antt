@@ -1,5 +1,5 @@
 -- The value of a constant expression is in range.
-use Rattle.std.proofs.Common.{ℕ, ◌<◌, ◌≤◌, ◌^◌, Bool, true, false, ℤ, pos, negsuc, arith}
+use Rattle.std.proofs.Common.{◌≡◌, refl, sym, subst, ℕ, ◌<◌, ◌≤◌, ◌^◌, Bool, true, false, ℤ, pos, negsuc, arith}
 use Rattle.std.proofs.lemmas.Nat.{or_lt, xor_lt, and_le_l}
 use Rattle.std.specs.Prelude.{not, nat_eq, int_div, int_rem, if◌then◌else◌, Result, Ok, Err}
 use Rattle.eff_types.specs.Types.{is_number}
@@ -19,6 +19,8 @@ use Rattle.core_unit.specs.declared.expressions.Expr.{Expr, end_of-Expr, more_of
 use Rattle.core_unit.specs.declared.operators.ArithmeticOperator.{ArithmeticOperator}
 use Rattle.core_unit.specs.declared.operators.ArithmeticOperator.TheVariants.{Multiply, Divide, Remainder, Add, Subtract, LeftShift, RightShift, And, ExclusiveOr, Or}
 use Rattle.core_unit.specs.declared.operators.LogicalOperator.{LogicalOperator}
+use Rattle.core_unit.specs.declared.operators.PointerSide.{PointerSide}
+use Rattle.core_unit.specs.declared.operators.PointerSide.TheVariants.{Left, Right}
 use Rattle.core_unit.specs.declared.operators.Sign.{Sign}
 use Rattle.core_unit.specs.declared.operators.Sign.TheVariants.{Signed, Unsigned as Without}
 use Rattle.core_unit.specs.declared.operators.UnaryOperator.{UnaryOperator}
@@ -35,10 +37,11 @@ use Rattle.type_rules.specs.declared.found.Worth.{Worth}
 use Rattle.type_rules.specs.declared.found.Worth.TheVariants.{Known, Trapped, Varying}
 use Rattle.type_laws.proofs.Operands.{IsFound, IsTypedFound, operand_keeps}
 use Rattle.type_laws.proofs.Triples.{Keeps, Always, then_keeps, refused_keeps, gives_keeps}
+use Rattle.type_laws.proofs.Valued.{IsNumeral, positive}
 
--- a value whose bits are in range
-abbrev IsSmall : Worth → Type 0
-IsSmall (Known value) = bits_in value < 2 ^ 32
+-- a number in range
+abbrev pub IsSmall : Worth → Type 0
+IsSmall (Known value) = IsNumeral value
 IsSmall _ = Unit {0}
 
 abbrev GivesSmall : Result ℕ TrapKind → Type 0
@@ -72,14 +75,25 @@ computed_small And sign a b p q = and_small a b _ (and_le_l a b) p
 computed_small ExclusiveOr sign a b p q = xor_lt 32 a b p q
 computed_small Or sign a b p q = or_lt 32 a b p q
 
-number_small : (n : ℕ) → n < 2 ^ 32 → bits_in (number n) < 2 ^ 32
-number_small n small = of (nat_eq n 0)
+number_small : (n : ℕ) → n < 2 ^ 32 → IsNumeral (number n)
+number_small n small = of (nat_eq n 0) refl
   where
-    of : (test : Bool) → bits_in (if test then Zero else Number n) < 2 ^ 32
-    of true = omega arith
-    of false = small
+    of : (test : Bool) → nat_eq n 0 ≡ test → IsNumeral (if test then Zero else Number n)
+    of true e = tt
+    of false e = (positive n e, small)
 
-truth_small : (b : Bool) → bits_in (number (truth b)) < 2 ^ 32
+-- its bits, and its address, which is none
+numeral_bits : (a : Word) → IsNumeral a → bits_in a < 2 ^ 32
+numeral_bits Zero h = omega arith
+numeral_bits (Number bits) h = h.1
+numeral_bits a h = absurd h
+
+numeral_address : (a : Word) → IsNumeral a → address_in a ≡ 0
+numeral_address Zero h = refl
+numeral_address (Number bits) h = refl
+numeral_address a h = absurd h
+
+truth_small : (b : Bool) → IsNumeral (number (truth b))
 truth_small true = number_small 1 (omega arith)
 truth_small false = number_small 0 (omega arith)
 
@@ -87,29 +101,33 @@ number_given : (r : Result ℕ TrapKind) → GivesSmall r → IsSmall (outcome (
 number_given (Ok n) small = number_small n small
 number_given (Err trap) small = tt
 
-pointer_given : (r : Result ℕ TrapKind) → IsSmall (outcome (as_value DataPointer r))
-pointer_given (Ok n) = omega arith
-pointer_given (Err trap) = tt
+pointer_given : (address : ℕ) (by : ℤ) → address ≡ 0 → IsSmall (outcome (as_value DataPointer (moved address by)))
+pointer_given address by null = subst (λ n. IsSmall (outcome (as_value DataPointer (moved n by)))) (sym null) tt
 
-applied_small : (operation : Operation) (a b : Word) → bits_in a < 2 ^ 32 → bits_in b < 2 ^ 32 → IsSmall (outcome (applied operation a b))
-applied_small (Arithmetic operator sign) a b p q = number_given (computed operator sign (bits_in a) (bits_in b)) (computed_small operator sign (bits_in a) (bits_in b) p q)
+side_numeral : (side : PointerSide) (a b : Word) → IsNumeral a → IsNumeral b → IsNumeral (on_side side a b)
+side_numeral Left a b p q = p
+side_numeral Right a b p q = q
+
+applied_small : (operation : Operation) (a b : Word) → IsNumeral a → IsNumeral b → IsSmall (outcome (applied operation a b))
+applied_small (Arithmetic operator sign) a b p q = number_given (computed operator sign (bits_in a) (bits_in b)) (computed_small operator sign (bits_in a) (bits_in b) (numeral_bits a p) (numeral_bits b q))
 applied_small (Compare operator what) a b p q = truth_small (holds operator (comparand what a) (comparand what b))
 applied_small (Move direction side sign words) a b p q =
-    pointer_given (moved (address_in (on_side side a b)) (distance direction (value_of sign (bits_in (on_side side b a))) words))
+    pointer_given (address_in (on_side side a b)) (distance direction (value_of sign (bits_in (on_side side b a))) words)
+    (numeral_address (on_side side a b) (side_numeral side a b p q))
 applied_small (Difference words) a b p q = number_small (difference words (address_in a) (address_in b)) (bits_small _)
 
-applied_to_small : (operator : UnaryOperator) (a : Word) → bits_in a < 2 ^ 32 → IsSmall (outcome (applied_to operator a))
+applied_to_small : (operator : UnaryOperator) (a : Word) → IsNumeral a → IsSmall (outcome (applied_to operator a))
 applied_to_small (unary.Plus sign) a p = p
 applied_to_small (unary.Minus sign) a p = number_given (negated sign (bits_in a)) (narrowed_small _ sign _)
 applied_to_small (unary.Complement sign) a p = number_small (complement (bits_in a)) (omega arith)
 applied_to_small unary.Not a p = truth_small (not (is_true a))
 
-one_small : (f : Word → Worth) (w : Worth) → IsSmall w → ((a : Word) → bits_in a < 2 ^ 32 → IsSmall (f a)) → IsSmall (of_one f w)
+one_small : (f : Word → Worth) (w : Worth) → IsSmall w → ((a : Word) → IsNumeral a → IsSmall (f a)) → IsSmall (of_one f w)
 one_small f (Known a) small next = next a small
 one_small f Trapped small next = tt
 one_small f Varying small next = tt
 
-both_small : (f : Word → Word → Worth) (v w : Worth) → IsSmall v → IsSmall w → ((a b : Word) → bits_in a < 2 ^ 32 → bits_in b < 2 ^ 32 → IsSmall (f a b))
+both_small : (f : Word → Word → Worth) (v w : Worth) → IsSmall v → IsSmall w → ((a b : Word) → IsNumeral a → IsNumeral b → IsSmall (f a b))
     → IsSmall (of_both f v w)
 both_small f (Known a) (Known b) p q next = next a b p q
 both_small f (Known a) Trapped p q next = tt
@@ -155,10 +173,10 @@ choice_small Trapped (Known a) Trapped p q = tt
 choice_small Trapped Trapped (Known b) p q = tt
 choice_small Trapped Trapped Trapped p q = tt
 
-worth_small : (u : Tables) (e : Expr) → IsTyped u e → IsSmall (worth e)
+pub worth_small : (u : Tables) (e : Expr) → IsTyped u e → IsSmall (worth e)
 unfolding IsTyped worth
 worth_small u (tree.Number sign bits) h = number_small bits h
-worth_small u tree.Null h = omega arith
+worth_small u tree.Null h = tt
 worth_small u (tree.Sizeof words) h = number_small words h
 worth_small u (tree.Unary' operator _ (more_of-Expr e end_of-Expr)) h = one_small _ (worth e) (worth_small u e h.0) (λ a small. applied_to_small operator a small)
 worth_small u (tree.Binary' operator _ (more_of-Expr a end_of-Expr) _ (more_of-Expr b end_of-Expr)) h =
@@ -170,7 +188,7 @@ worth_small u (tree.Convert' why to _ (more_of-Expr e end_of-Expr)) h = worth_sm
 worth_small u e h = tt
 
 known_small : (w : Worth) → IsSmall w → known_bits w < 2 ^ 32
-known_small (Known value) small = small
+known_small (Known value) small = numeral_bits value small
 known_small Trapped small = omega arith
 known_small Varying small = omega arith
 
