@@ -57,3 +57,5 @@ pub mod Signatures
 pub mod Levels
 pub mod Contents
 pub mod Assembled
+pub mod Order
+pub mod Ordered
