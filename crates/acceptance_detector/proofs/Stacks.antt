@@ -1,11 +1,10 @@
 -- Stacks of equal steps, and passes that were never split.
-use Rattle.std.proofs.Common.{◌≡◌, ◌<◌, ℕ, List, [], ◌++◌, length, sym, subst, ap, ◌∙◌, arith}
+use Rattle.std.proofs.Common.{◌≡◌, ◌<◌, ℕ, List, [], ◌++◌, sym, subst, ap, ◌∙◌, arith}
 use Rattle.std.specs.Prelude.{◌^◌, Contains}
 use Rattle.std.specs.List.{flat_map}
 use Rattle.std.proofs.lemmas.List.{append-nil}
-use Rattle.ctx_set.specs.declared.steps.StackStep.{StackStep}
 use Rattle.reports.specs.Stacks.{IsStep}
-use Rattle.reports.specs.Passes.{Report, Joined, Held, HasNumber, IsWhole, all_reports}
+use Rattle.reports.specs.Passes.{Joined, IsWhole, all_reports}
 use Rattle.plain_board.specs.Passes.{PlainParts}
 use Rattle.acceptance_detector.specs.Lone.{IsLone}
 

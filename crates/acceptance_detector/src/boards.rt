@@ -67,36 +67,66 @@ fn fill(board: &PlainBoard, pass: &mut PlainPass, count: u32)
     }
 }
 
+// What is answered to a stack of two steps, to it again, to the one step from its site, and to the two steps once more.
+fn in_turn(board: &PlainBoard, pass: &mut PlainPass) -> [&'static str; 4]
+    requires lone { IsLone pass.old }
+    ensures lone { IsLone pass.new }
+    ensures longer { length pass.new.held.own ≡ length pass.old.held.own + 4 }
+{
+    let first = said(board, pass, &two(3));
+    let second = said(board, pass, &two(3));
+    let third = said(board, pass, &one(3));
+    let fourth = said(board, pass, &two(3));
+    [first, second, third, fourth]
+}
+
+// Whether the one step was counted once, and the two steps three times.
+fn are_one_and_three(stacks: &StackList) -> bool {
+    match stacks.as_slice() {
+        [one, two] => {
+            one.stack.len() == 1 && one.count == 1 && two.stack.len() == 2 && two.count == 3
+        }
+        _ => false,
+    }
+}
+
 #[test]
 fn a_stack_is_first_and_then_again(rt: HostRuntime) -> Result<(), Fail> {
     let (board, mut pass) = board_of(rt.alloc())?;
-    assert_eq!(rt; said(&board, &mut pass, &two(3)), "first");
-    assert_eq!(rt; said(&board, &mut pass, &two(3)), "again");
-    assert_eq!(rt; said(&board, &mut pass, &one(3)), "first");
-    assert_eq!(rt; said(&board, &mut pass, &two(3)), "again");
+    let answers = in_turn(&board, &mut pass);
+    assert!(rt; answers == ["first", "again", "first", "again"]);
     let stacks = stacks_of(board, pass)?;
+    assert!(rt; are_one_and_three(&stacks));
     assert_eq!(rt; total_count(&stacks), 4);
-    let stacks = stacks.as_slice();
-    assert_eq!(rt; stacks.len(), 2);
-    assert_eq!(rt; stacks[0].stack.len(), 1);
-    assert_eq!(rt; stacks[0].count, 1);
-    assert_eq!(rt; stacks[1].stack.len(), 2);
-    assert_eq!(rt; stacks[1].count, 3);
     Ok(())
+}
+
+// What is answered to a new stack, to a known one with a step more, and to a known one.
+fn at_the_end(board: &PlainBoard, pass: &mut PlainPass) -> [&'static str; 3]
+    requires lone { IsLone pass.old }
+    ensures lone { IsLone pass.new }
+    ensures longer { length pass.new.held.own ≡ length pass.old.held.own + 3 }
+{
+    let new = said(board, pass, &one(0));
+    let longer = said(board, pass, &two(7));
+    let known = said(board, pass, &one(7));
+    [new, longer, known]
+}
+
+// Whether so many stacks were counted, the one from site 7 twice and the last one once.
+fn are_full(stacks: &StackList) -> bool {
+    let stacks = stacks.as_slice();
+    stacks.len() == 65_536 && stacks[6].count == 2 && stacks[65_535].count == 1
 }
 
 #[test]
 fn a_board_has_room_for_65536_prefixes(rt: HostRuntime) -> Result<(), Fail> {
     let (board, mut pass) = board_of(rt.alloc())?;
     fill(&board, &mut pass, 65_536);
-    assert_eq!(rt; said(&board, &mut pass, &one(0)), "full");
-    assert_eq!(rt; said(&board, &mut pass, &two(7)), "full");
-    assert_eq!(rt; said(&board, &mut pass, &one(7)), "again");
+    let answers = at_the_end(&board, &mut pass);
+    assert!(rt; answers == ["full", "full", "again"]);
     let stacks = stacks_of(board, pass)?;
-    let stacks = stacks.as_slice();
-    assert_eq!(rt; stacks.len(), 65_536);
-    assert_eq!(rt; stacks[6].count, 2);
-    assert_eq!(rt; stacks[65_535].count, 1);
+    assert!(rt; are_full(&stacks));
     Ok(())
 }
 
@@ -104,10 +134,10 @@ fn a_board_has_room_for_65536_prefixes(rt: HostRuntime) -> Result<(), Fail> {
 #[test]
 fn a_joined_pass_brings_nothing(rt: HostRuntime) -> Result<(), Fail> {
     let (board, mut pass) = board_of(rt.alloc())?;
-    assert_eq!(rt; said(&board, &mut pass, &one(3)), "first");
+    let before = said(&board, &mut pass, &one(3));
     let child = board.split(&mut pass);
     board.join(&mut pass, child);
     let answer = board.report(&mut pass, &one(3));
-    assert!(rt; matches!(answer, Noted::Again));
+    assert!(rt; before == "first" && matches!(answer, Noted::Again));
     Ok(())
 }

@@ -68,7 +68,7 @@ fn is_refused_at_token(alloc: Global, source: &[u8], wanted: u32) -> bool {
 }
 
 /// A program as they are written, with a ring, a callback and a thread.
-const AUDIO: &[u8] = b"\
+pub(crate) const AUDIO: &[u8] = b"\
 #include <stdio.h>
 #include <stdlib.h>
 #include <pthread.h>

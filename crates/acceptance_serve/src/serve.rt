@@ -5,6 +5,7 @@ use built_model::End;
 use rt_base::{Bytes, CallList, FileList, MemFile, MemFiles, MemSink};
 use rtsan_core::{Gate, Outcome, Status, serve};
 use std::alloc::{AllocError, Global};
+use std::process::Abort;
 use std::sync::Wait;
 use std::test::Fail;
 use std::thread::Threads;
@@ -51,8 +52,12 @@ const UNCALLED_RUN: &[u8] =
 const DOUBLING: &[u8] =
     b"void a(void) { }\nvoid b(void) { a(); a(); a(); a(); }\nvoid c(void) { b(); b(); b(); b(); }\nvoid d(void) { c(); c(); c(); c(); }\nvoid e(void) { d(); d(); d(); d(); }\nvoid f(void) { e(); e(); e(); e(); }\nvoid g(void) { f(); f(); f(); f(); }\nvoid h(void) { g(); g(); g(); g(); }\nvoid i(void) { h(); h(); h(); h(); }\nvoid j(void) { i(); i(); i(); i(); }\nvoid k(void) { j(); j(); j(); j(); }\nvoid l(void) { k(); k(); k(); k(); }\nint main(void) { l(); return 0; }\n";
 
+/// A pointer to functions of a nonblocking argument, where the argument of the function has no effects.
+const INNER_EFFECTS: &[u8] =
+    b"typedef void (*nb)(void) [[clang::nonblocking]];\ntypedef void (*pl)(void);\nvoid u(pl p) { }\nvoid (*q)(nb) = u;\n";
+
 /// Each status of each command that a small file comes to.
-static ROWS: [Row; 25] = [
+static ROWS: [Row; 35] = [
     Row {
         words: &[],
         file: b"",
@@ -127,9 +132,63 @@ static ROWS: [Row; 25] = [
     },
     Row {
         words: CHECK,
-        file: b"int x;",
+        file: INNER_EFFECTS,
+        text: b"a.c:4:17: refused: type 11 left-out conversion\n",
+        status: Status::Refused,
+    },
+    Row {
+        words: STEP,
+        file: INNER_EFFECTS,
+        text: b"a.c:4:17: refused: type 11 left-out conversion\n",
+        status: Status::Refused,
+    },
+    Row {
+        words: CHECK,
+        file: b"void f(void) [[clang::nonblocking]];\nvoid f(void) [[clang::blocking]];\n",
+        text: b"a.c:2:6: refused: type 4 effects conflict\n",
+        status: Status::Refused,
+    },
+    Row {
+        words: CHECK,
+        file: b"int x[524289];\nint y = z;\n",
+        text: b"a.c:2:9: refused: type 1 unknown name\n",
+        status: Status::Refused,
+    },
+    Row {
+        words: CHECK,
+        file: b"int x[524289];\nvoid f(int, int, int, int, int, int, int, int, int, int, int, int, int, int, int, int, int);\n",
+        text: b"rtsan: limit: parameters\n",
+        status: Status::Limit,
+    },
+    Row {
+        words: CHECK,
+        file: b"int x[524289];\n_Thread_local int t[1025];\n",
+        text: b"rtsan: limit: static words\n",
+        status: Status::Limit,
+    },
+    Row {
+        words: STEP,
+        file: b"_Thread_local int t[1025];\n",
+        text: b"rtsan: limit: thread words\n",
+        status: Status::Limit,
+    },
+    Row {
+        words: STEP,
+        file: b"int f(int a) { int b[4096]; return 0; }\n",
+        text: b"rtsan: limit: frame words\n",
+        status: Status::Limit,
+    },
+    Row {
+        words: STEP,
+        file: b"int f(int a) { int b[4095]; return 0; }\n",
         text: b"rtsan: not built\n",
         status: Status::Refused,
+    },
+    Row {
+        words: CHECK,
+        file: b"int x;",
+        text: b"",
+        status: Status::Clean,
     },
     Row {
         words: STEP,
@@ -148,6 +207,12 @@ static ROWS: [Row; 25] = [
         file: b"void g(void);\nint main(void) { g(); return 0; }\n",
         text: b"",
         status: Status::Clean,
+    },
+    Row {
+        words: CHECK,
+        file: b"void slow(void);\nvoid f(void) [[clang::nonblocking]] { slow(); f(); }\n",
+        text: BLOCKING_WARNING,
+        status: Status::Warned,
     },
     Row {
         words: CHECK,
@@ -217,7 +282,7 @@ fn files_of(alloc: Global, bytes: &[u8]) -> Result<MemFiles, AllocError> {
 }
 
 /// Serves the words over `a.c`.
-fn served<R: Threads + Wait + Copy + Send + Sync>(
+pub(crate) fn served<R: Threads + Wait + Copy + Send + Sync>(
     rt: R,
     alloc: Global,
     words: &[&str],
@@ -259,6 +324,15 @@ fn calls(alloc: Global, count: u32) -> Result<String, AllocError> {
     Ok(text)
 }
 
+/// So many functions that are declared.
+fn declarations(alloc: Global, count: u32) -> Result<String, AllocError> {
+    let mut text = String::new(alloc);
+    for number in 0..count {
+        text.push_str(&format!(in alloc; "void f{number}(void);\n")?)?;
+    }
+    Ok(text)
+}
+
 /// Functions that call one another in a row, of which `main` calls the last: so many and `main`.
 fn row_of_calls(alloc: Global, count: u32) -> Result<String, AllocError> {
     let mut text = format!(in alloc; "void f1(void) {{ }}\n")?;
@@ -270,58 +344,58 @@ fn row_of_calls(alloc: Global, count: u32) -> Result<String, AllocError> {
     Ok(text)
 }
 
+/// Serves each row, and compares its text and its status.
+fn serves_rows<R: Abort + Threads + Wait + Copy + Send + Sync>(
+    rt: R,
+    alloc: Global,
+    rows: &[(&[&str], &[u8], &[u8], Status)],
+) -> Result<(), Fail> {
+    for row in rows {
+        let mut out = MemSink::new(alloc, 200, 200, CallList::new(alloc))?;
+        let outcome = served(rt, alloc, row.0, row.1, &mut out)?;
+        assert_eq!(rt; out.bytes(), row.2);
+        assert_eq!(rt; outcome.status, row.3);
+    }
+    Ok(())
+}
+
 #[test]
-fn limits_are_met_and_passed(rt: HostRuntime) -> Result<(), Fail> {
+fn sources_and_units_are_read_up_to_their_limits(rt: HostRuntime) -> Result<(), Fail> {
     let most = vec![in rt.alloc(); b' '; 1_048_576]?;
     let more = vec![in rt.alloc(); b' '; 1_048_577]?;
+    let functions = declarations(rt.alloc(), 4096)?;
+    let functions_over = declarations(rt.alloc(), 4097)?;
+    let unlinked: &[u8] = b"rtsan: unlinked: main\n";
+    let too_long: &[u8] = b"rtsan: limit: source bytes\n";
+    let too_many: &[u8] = b"rtsan: limit: functions\n";
+    let rows: [(&[&str], &[u8], &[u8], Status); 6] = [
+        (CHECK, most.as_slice(), b"", Status::Clean),
+        (CHECK, more.as_slice(), too_long, Status::Limit),
+        (STEP, most.as_slice(), unlinked, Status::Unlinked),
+        (STEP, more.as_slice(), too_long, Status::Limit),
+        (CHECK, functions.as_bytes(), b"", Status::Clean),
+        (CHECK, functions_over.as_bytes(), too_many, Status::Limit),
+    ];
+    serves_rows(rt, rt.alloc(), &rows)
+}
+
+#[test]
+fn code_and_stack_are_used_up_to_their_limits(rt: HostRuntime) -> Result<(), Fail> {
     let nodes = calls(rt.alloc(), 87_379)?;
     let nodes_over = calls(rt.alloc(), 87_400)?;
     let depth = row_of_calls(rt.alloc(), 255)?;
     let depth_over = row_of_calls(rt.alloc(), 256)?;
     let exited: &[u8] = b"thread 0: exited 0\n";
-    let rows: [(&[&str], &[u8], &[u8], Status); 9] = [
-        (CHECK, most.as_slice(), b"", Status::Clean),
-        (
-            CHECK,
-            more.as_slice(),
-            b"rtsan: limit: source bytes\n",
-            Status::Limit,
-        ),
-        (
-            STEP,
-            most.as_slice(),
-            b"rtsan: unlinked: main\n",
-            Status::Unlinked,
-        ),
-        (
-            STEP,
-            more.as_slice(),
-            b"rtsan: limit: source bytes\n",
-            Status::Limit,
-        ),
+    let too_long: &[u8] = b"rtsan: limit: code\n";
+    let too_deep: &[u8] = b"thread 0: trapped stack-overflow\n";
+    let rows: [(&[&str], &[u8], &[u8], Status); 5] = [
         (CHECK, nodes_over.as_bytes(), b"", Status::Clean),
         (STEP, nodes.as_bytes(), exited, Status::Clean),
-        (
-            STEP,
-            nodes_over.as_bytes(),
-            b"rtsan: limit: code\n",
-            Status::Limit,
-        ),
+        (STEP, nodes_over.as_bytes(), too_long, Status::Limit),
         (STEP, depth.as_bytes(), exited, Status::Clean),
-        (
-            STEP,
-            depth_over.as_bytes(),
-            b"thread 0: trapped stack-overflow\n",
-            Status::Trapped,
-        ),
+        (STEP, depth_over.as_bytes(), too_deep, Status::Trapped),
     ];
-    for (words, file, text, status) in rows {
-        let mut out = MemSink::new(rt.alloc(), 200, 200, CallList::new(rt.alloc()))?;
-        let outcome = served(rt, rt.alloc(), words, file, &mut out)?;
-        assert_eq!(rt; out.bytes(), text);
-        assert_eq!(rt; outcome.status, status);
-    }
-    Ok(())
+    serves_rows(rt, rt.alloc(), &rows)
 }
 
 #[test]

@@ -2,7 +2,7 @@
 use Rattle.std.proofs.Common.{◌≡◌, ap, subst, refl}
 use Rattle.rtsan_core.specs.Causes.{Cause}
 use Rattle.rtsan_core.specs.Rungs.{Rung, Stops, GoesOn, Then, Stopped, WentOn}
-use Rattle.rtsan_core.specs.Found.{Gives, Is, itself}
+use Rattle.rtsan_core.specs.Found.{Gives, Is}
 
 stop_only : {U V B : Type 0} (seen : Rung V → B) (first : Rung U → Type 0) (next : U → Rung V → Type 0) (cause : Cause) → Is first (Stops cause) → (other : Rung V) → Then first next other → seen other ≡ seen (Stops cause)
 stop_only seen first next cause h other (Stopped c s e) =

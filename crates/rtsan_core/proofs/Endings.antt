@@ -1,9 +1,8 @@
 -- The rows of statuses that a run has, by what it left.
-use Rattle.std.proofs.Common.{◌≡◌, ◌≢◌, ◌↔◌, ℕ, ◌<◌, ◌≤◌, ◌||◌, List, [], ◌∷◌, length, nat_lt, Bool, true, false, Option, Some, None, IsSomeAnd, IfSome, refl, ap, sym, subst, ◌∙◌, arith}
+use Rattle.std.proofs.Common.{◌≡◌, ◌≢◌, ◌↔◌, ℕ, ◌<◌, ◌≤◌, ◌||◌, List, length, nat_lt, Bool, true, false, Option, Some, None, IfSome, refl, ap, sym, subst, ◌∙◌, arith}
 use Rattle.std.specs.List.{list_any}
 use Rattle.std.specs.Prelude.{if◌then◌else◌}
 use Rattle.built_unit.specs.Units.{UnitParts}
-use Rattle.eff_check.specs.declared.Warning.{Warning}
 use Rattle.built_code.specs.declared.events.Ask.{Ask}
 use Rattle.built_code.specs.declared.events.Ask.TheVariants.{Over}
 use Rattle.built_code.specs.declared.events.Finish.{Finish}
@@ -15,42 +14,51 @@ use Rattle.built_model.specs.Run.{IsRun, ending, is_ending, event_limit, end_of,
 use Rattle.built_model.specs.Source.{next}
 use Rattle.rt_base.specs.Outside.{FilesState, SinkState}
 use Rattle.rtsan_core.specs.declared.finished.Finished.{Finished}
+use Rattle.rtsan_core.specs.declared.reading.Reading.{Reading}
 use Rattle.rtsan_core.specs.declared.status.Outcome.{Outcome}
 use Rattle.rtsan_core.specs.declared.status.Status.{Status}
-use Rattle.rtsan_core.specs.declared.status.Status.TheVariants.{Clean, Warned, Reported, Refused, Usage, ReadFault, WriteFault, NoMemory, Limit, Unlinked, Trapped, Stopped as StatusStopped}
+use Rattle.rtsan_core.specs.declared.status.Status.TheVariants.{Clean, Warned as StatusWarned, Reported, Refused, Usage, ReadFault, WriteFault, NoMemory, Limit, Unlinked, Trapped, Stopped as StatusStopped}
 use Rattle.command.specs.declared.command.Command.{Command}
 use Rattle.command.specs.declared.command.Job.{Job}
 use Rattle.command.specs.declared.command.Job.TheVariants.{Check, Step, Run, Gen}
-use Rattle.rtsan_core.specs.Served.{served_command}
-use Rattle.rtsan_core.specs.Causes.{Cause, NoCommand, Unreadable, SourceTooLong, Misspelled, Unread, NotBuilt, Undefined, CodeTooLong, OutOfMemory, status_of}
-use Rattle.rtsan_core.specs.Rungs.{Rung, Stops, GoesOn, Then, Stopped, WentOn}
-use Rattle.rtsan_core.specs.Runs.{IsFinished, is_full, has_full, has_trapped, has_stopped, status_by, warned_status, run_status}
-use Rattle.rtsan_core.specs.Ladder.{Findings, SourceLadder, JobLadder, Ladder, IsChecked, Checked, IsStepped, Stepped}
-use Rattle.rtsan_core.specs.Outcomes.{IsPrinted, Whole, Cut, answer_at, answer_by, left_at, Ends, There, Early, IsOutcome}
-use Rattle.rtsan_core.specs.Rows.{HasSource, RunsUnit, IsRunOf, Exactly, LeftReports, LeftTrapped, LeftStopped}
+use Rattle.rtsan_core.specs.Causes.{Cause, NoCommand, Unreadable, SourceTooLong, Misspelled, Unread, Untyped, UnitTooLarge, NotBuilt, Undefined, CodeTooLong, OutOfMemory, status_of}
+use Rattle.rtsan_core.specs.Rungs.{Rung, Stops, GoesOn, Stopped, WentOn}
+use Rattle.rtsan_core.specs.Runs.{Warned, Left, IsFinished, is_full, has_full, has_trapped, has_stopped, status_by, warned_status, run_status}
+use Rattle.rtsan_core.specs.Ladder.{Findings, SourceLadder, JobLadder, Ladder, Checked, Stepped}
+use Rattle.rtsan_core.specs.Outcomes.{IsPrinted, Whole, Cut, answer_at, answer_by, finished_in, left_at, Ends, There, Early, IsOutcome}
+use Rattle.rtsan_core.proofs.Stops.{warned_row}
+use Rattle.rtsan_core.specs.Rows.{HasSource, StepsSource, IsRunOf, Exactly, LeftReports, LeftTrapped, LeftStopped}
 
 same_findings : (f g : Findings) → ◌≡◌ {A = Rung Findings} (GoesOn f) (GoesOn g) → f ≡ g
 same_findings f g e = cc
 
 -- what a job left is a run of its unit
-job_left : (words : List (List ℕ)) (before : FilesState) (command : Command) (source : List ℕ) (unit : UnitParts) (f : Findings) → HasSource words before command source → SourceLadder command.file source (GoesOn unit) → (job : Job) → command.job ≡ job → JobLadder job command source unit (GoesOn f) → IfSome f.left (IsRunOf words before)
-job_left words before command source unit f has reads Check is (Checked ws w e) =
-    subst (λ left. IfSome left (IsRunOf words before)) (sym (ap (λ g. g.left) (same_findings f _ e))) tt
-job_left words before command source unit f has reads Step is (Stopped c h e) = let clash : ⊥ = cc in absurd clash
-job_left words before command source unit f has reads Step is (WentOn t plain (Stopped c h e)) = let clash : ⊥ = cc in absurd clash
-job_left words before command source unit f has reads Step is (WentOn t plain (WentOn u l (Stopped c h e))) = let clash : ⊥ = cc in absurd clash
-job_left words before command source unit f has reads Step is (WentOn t plain (WentOn u l (WentOn v s (Stepped ws w entry starts left p e)))) =
-    subst (λ left. IfSome left (IsRunOf words before)) (sym (ap (λ g. g.left) (same_findings f _ e)))
-    (record { unit = unit; runs = record { command = command; steps = record { steps = is; source = source; has = has; reads = reads }; plain = plain }; entry = entry; finished = p })
-job_left words before command source unit f has reads Run is h = absurd h
-job_left words before command source unit f has reads (Gen count) is h = absurd h
+abbrev IsRunLeft : List (List ℕ) → FilesState → Option Left → Type 0
+IsRunLeft words before left = IfSome (finished_in left) (IsRunOf words before)
 
-ladder_left : (words : List (List ℕ)) (before after : FilesState) (f : Findings) → Ladder words before after (GoesOn f) → IfSome f.left (IsRunOf words before)
+step_left : (words : List (List ℕ)) (before : FilesState) (command : Command) (steps : StepsSource words before command) (f : Findings) → JobLadder Step command steps.source steps.read (GoesOn f) → IsRunLeft words before f.left
+step_left words before command steps f (Stopped c h e) = let clash : ⊥ = cc in absurd clash
+step_left words before command steps f (WentOn unit formed (Stopped c h e)) = let clash : ⊥ = cc in absurd clash
+step_left words before command steps f (WentOn unit formed (WentOn t plain (Stopped c h e))) = let clash : ⊥ = cc in absurd clash
+step_left words before command steps f (WentOn unit formed (WentOn t plain (WentOn u l (Stopped c h e)))) = let clash : ⊥ = cc in absurd clash
+step_left words before command steps f (WentOn unit formed (WentOn t plain (WentOn u l (WentOn v s (Stepped ws w entry starts left p e))))) =
+    subst (IsRunLeft words before) (sym (ap (λ g. g.left) (same_findings f _ e)))
+    (record { unit = unit; runs = record { command = command; steps = record { steps = steps; formed = formed }; plain = plain }; entry = entry; finished = p })
+
+job_left : (words : List (List ℕ)) (before : FilesState) (command : Command) (source : List ℕ) (read : Reading) (f : Findings) → HasSource words before command source → SourceLadder command.file source (GoesOn read) → (job : Job) → command.job ≡ job → JobLadder job command source read (GoesOn f) → IsRunLeft words before f.left
+job_left words before command source read f has reads Check is (Checked ws w e) =
+    subst (IsRunLeft words before) (sym (ap (λ g. g.left) (same_findings f _ e))) tt
+job_left words before command source read f has reads Step is h =
+    step_left words before command (record { steps = is; source = source; has = has; read = read; reads = reads }) f h
+job_left words before command source read f has reads Run is h = absurd h
+job_left words before command source read f has reads (Gen count) is h = absurd h
+
+ladder_left : (words : List (List ℕ)) (before after : FilesState) (f : Findings) → Ladder words before after (GoesOn f) → IsRunLeft words before f.left
 ladder_left words before after f (Stopped c h e) = let clash : ⊥ = cc in absurd clash
 ladder_left words before after f (WentOn command named (Stopped c h e)) = let clash : ⊥ = cc in absurd clash
 ladder_left words before after f (WentOn command named (WentOn source contents (Stopped c h e))) = let clash : ⊥ = cc in absurd clash
-ladder_left words before after f (WentOn command named (WentOn source contents (WentOn unit reads job))) =
-    job_left words before command source unit f (record { named = named; contents = contents }) reads command.job refl job
+ladder_left words before after f (WentOn command named (WentOn source contents (WentOn read reads job))) =
+    job_left words before command source read f (record { named = named; contents = contents }) reads command.job refl job
 
 end_left : (words : List (List ℕ)) (before after : FilesState) (end : Rung Findings) → Ends (Ladder words before after) end → IfSome (left_at end) (IsRunOf words before)
 end_left words before after (Stops cause) r = tt
@@ -118,16 +126,15 @@ stopped_by false false true s w room other_than = (λ e. cc, λ e. (let f = e.1 
 stopped_by false false false true w room other_than = (λ e. (refl, refl, refl), λ e. refl)
 stopped_by false false false false w room other_than = (λ e. absurd (other_than e), λ e. (let f = e.2 in cc))
 
-warned_not : (status : Status) (warnings : List Warning) → (Clean ≡ status → ⊥) → (Warned ≡ status → ⊥) → warned_status warnings ≡ status → ⊥
-warned_not status [] c w e = c e
-warned_not status (x ∷ xs) c w e = w e
+warned_not : (status : Status) (warned : Warned) → (Clean ≡ status → ⊥) → (StatusWarned ≡ status → ⊥) → warned_status warned ≡ status → ⊥
+warned_not status warned c w = warned_row (λ s. s ≡ status → ⊥) c w warned.noted warned.verdicts.warnings
 
-exact_run : (warnings : List Warning) (f : Finished) → has_full f ≡ false → AreExact (run_status warnings f) (Some f)
-exact_run warnings f room =
-    let w : Status = warned_status warnings in
-    let r = reported_by (nat_lt 0 f.total) (has_full f) (has_trapped f) (has_stopped f) w room (warned_not Reported warnings (λ e. cc) (λ e. cc)) in
-    let t = trapped_by (nat_lt 0 f.total) (has_full f) (has_trapped f) (has_stopped f) w room (warned_not Trapped warnings (λ e. cc) (λ e. cc)) in
-    let s = stopped_by (nat_lt 0 f.total) (has_full f) (has_trapped f) (has_stopped f) w room (warned_not StatusStopped warnings (λ e. cc) (λ e. cc)) in
+exact_run : (warned : Warned) (f : Finished) → has_full f ≡ false → AreExact (run_status (warned_status warned) f) (Some f)
+exact_run warned f room =
+    let w : Status = warned_status warned in
+    let r = reported_by (nat_lt 0 f.total) (has_full f) (has_trapped f) (has_stopped f) w room (warned_not Reported warned (λ e. cc) (λ e. cc)) in
+    let t = trapped_by (nat_lt 0 f.total) (has_full f) (has_trapped f) (has_stopped f) w room (warned_not Trapped warned (λ e. cc) (λ e. cc)) in
+    let s = stopped_by (nat_lt 0 f.total) (has_full f) (has_trapped f) (has_stopped f) w room (warned_not StatusStopped warned (λ e. cc) (λ e. cc)) in
     let some = some_total f.total in
     let none = no_total f.total in
     record {
@@ -149,6 +156,8 @@ exact_stop (Unreadable file) = exact_none ReadFault (λ e. cc) (λ e. cc) (λ e.
 exact_stop SourceTooLong = exact_none Limit (λ e. cc) (λ e. cc) (λ e. cc)
 exact_stop (Misspelled file place number) = exact_none Refused (λ e. cc) (λ e. cc) (λ e. cc)
 exact_stop (Unread file place number) = exact_none Refused (λ e. cc) (λ e. cc) (λ e. cc)
+exact_stop (Untyped file place number) = exact_none Refused (λ e. cc) (λ e. cc) (λ e. cc)
+exact_stop (UnitTooLarge limit) = exact_none Limit (λ e. cc) (λ e. cc) (λ e. cc)
 exact_stop NotBuilt = exact_none Refused (λ e. cc) (λ e. cc) (λ e. cc)
 exact_stop (Undefined name) = exact_none Unlinked (λ e. cc) (λ e. cc) (λ e. cc)
 exact_stop CodeTooLong = exact_none Limit (λ e. cc) (λ e. cc) (λ e. cc)
@@ -159,16 +168,15 @@ no_thread_full unit entry f p =
     ap (λ ts. list_any (λ thread. is_full thread.end) ts) p.threads
     ∙ ap (λ b. b || false) (run_not_full unit entry p.ended.trace p.ended.end p.thread.run)
 
-exact_left : (words : List (List ℕ)) (before : FilesState) (file source : List ℕ) (unit : UnitParts) (warnings : List Warning) (left : Option Finished) → IfSome left (IsRunOf words before) → AreExact (answer_by file source unit warnings left).status left
-exact_left words before file source unit warnings None r =
-    exact_none (warned_status warnings) (warned_not Reported warnings (λ e. cc) (λ e. cc)) (warned_not Trapped warnings (λ e. cc) (λ e. cc)) (warned_not StatusStopped warnings (λ e. cc) (λ e. cc))
-exact_left words before file source unit warnings (Some f) r =
-    exact_run warnings f (no_thread_full r.unit r.entry f r.finished)
+exact_left : (words : List (List ℕ)) (before : FilesState) (warned : Warned) (left : Option Left) → IsRunLeft words before left → AreExact (answer_by warned left).status (finished_in left)
+exact_left words before warned None r =
+    exact_none (warned_status warned) (warned_not Reported warned (λ e. cc) (λ e. cc)) (warned_not Trapped warned (λ e. cc) (λ e. cc)) (warned_not StatusStopped warned (λ e. cc) (λ e. cc))
+exact_left words before warned (Some left) r =
+    exact_run warned left.finished (no_thread_full r.unit r.entry left.finished r.finished)
 
 exact_end : (words : List (List ℕ)) (before after : FilesState) (end : Rung Findings) → Ends (Ladder words before after) end → AreExact (answer_at end).status (left_at end)
 exact_end words before after (Stops cause) r = exact_stop cause
-exact_end words before after (GoesOn f) r =
-    exact_left words before f.file f.source f.unit f.warnings f.left (end_left words before after (GoesOn f) r)
+exact_end words before after (GoesOn f) r = exact_left words before f.warned f.left (end_left words before after (GoesOn f) r)
 
 exact : (words : List (List ℕ)) (before after : FilesState) (outcome : Outcome) (old new : SinkState) → IsOutcome (Ladder words before after) outcome old new → outcome.status ≢ WriteFault → AreExact outcome.status outcome.finished
 exact words before after outcome old new h never = by h.printed

@@ -9,3 +9,5 @@ pub mod Defaults
 pub mod Plain
 pub mod Stops
 pub mod Endings
+pub mod OneOrder
+pub mod OneCheck

@@ -1,12 +1,10 @@
 -- From what was found of a source to the outcome of its command.
-use Rattle.std.proofs.Common.{◌≡◌, ◌≢◌, ℕ, ◌≤◌, ◌⊎◌, inl, inr, List, Option, Some, None, IsSome, refl, ap, sym, subst, ◌∙◌}
-use Rattle.built_unit.specs.Units.{UnitParts}
-use Rattle.eff_check.specs.declared.Warning.{Warning}
-use Rattle.eff_check.specs.Violations.{AreWarnings}
+use Rattle.std.proofs.Common.{◌≡◌, ◌≢◌, ℕ, ◌⊎◌, inl, inr, List, Option, Some, None, IsSome, refl, ap, sym, subst, ◌∙◌}
+use Rattle.unit_check.specs.Verdicts.{Report, AreVerdicts}
 use Rattle.rt_base.specs.Outside.{FilesState, SinkState, IsContents, TakesAll}
-use Rattle.rtsan_core.specs.declared.finished.Finished.{Finished}
+use Rattle.rtsan_core.specs.declared.reading.Reading.{Reading}
 use Rattle.rtsan_core.specs.declared.reading.Refusal.{Refusal}
-use Rattle.rtsan_core.specs.declared.reading.Refusal.TheVariants.{ReadFault, TooLong, Misspelled, Unread, NotBuilt, NoMemory}
+use Rattle.rtsan_core.specs.declared.reading.Refusal.TheVariants.{ReadFault, TooLong, Misspelled, Unread, Untyped, TooLarge, NoMemory}
 use Rattle.rtsan_core.specs.declared.status.Outcome.{Outcome}
 use Rattle.rtsan_core.specs.declared.status.Status.{Status}
 use Rattle.rtsan_core.specs.declared.status.Status.TheVariants.{NoMemory as StatusNoMemory}
@@ -16,44 +14,38 @@ use Rattle.command.specs.declared.command.Job.TheVariants.{Check, Step}
 use Rattle.rtsan_core.specs.Served.{served_command}
 use Rattle.rtsan_core.specs.Causes.{Cause, NoCommand, Unreadable, OutOfMemory}
 use Rattle.rtsan_core.specs.Rungs.{Rung, Stops, GoesOn, Then, Stopped, WentOn}
-use Rattle.rtsan_core.specs.Ladder.{Findings, SourceLadder, JobLadder, CommandLadder, Ladder}
-use Rattle.rtsan_core.specs.Outcomes.{Answer, IsPrinted, Whole, Cut, answer_of, answer_at, answer_by, left_at, Ends, There, Early, IsOutcome, IsUndisturbed, IsCalm, HasTheAnswer}
-use Rattle.rtsan_core.specs.Found.{Gives, Is, IsFound, IsFileRefused, IsOnlyOutcome, cause_of}
+use Rattle.rtsan_core.specs.Ladder.{Findings, warned_in, SourceLadder, StepLadder, JobLadder, CommandLadder, Ladder}
+use Rattle.rtsan_core.specs.Outcomes.{Answer, IsPrinted, Whole, Cut, answer_of, answer_at, answer_by, Ends, There, Early, IsOutcome, IsUndisturbed, IsCalm, HasTheAnswer}
+use Rattle.rtsan_core.specs.Found.{Gives, Is, IsFileRefused, IsOnlyOutcome, cause_of}
 use Rattle.rtsan_core.proofs.Climbing.{climb, climb_stop}
-use Rattle.rtsan_core.proofs.Jobs.{job_checked, findings}
+use Rattle.rtsan_core.proofs.Jobs.{job_checked, findings, stop_told}
+use Rattle.rtsan_core.proofs.Plain.{climb_told}
 
 -- the ladder from a source on
 abbrev pub FromSource : Job → Command → (source : List ℕ) → Rung Findings → Type 0
-FromSource job command source = Then (SourceLadder command.file source) (λ unit. JobLadder job command source unit)
+FromSource job command source = Then (SourceLadder command.file source) (λ read. JobLadder job command source read)
 
 -- a source that stops
-stop_told : (job : Job) (command : Command) (source : List ℕ) (cause : Cause) (outcome : Outcome) (status : Status) (old new : SinkState) → Is (SourceLadder command.file source) (Stops cause) → IsPrinted (answer_of cause) status old new → outcome.status ≡ status → outcome.finished ≡ None → IsOnlyOutcome (FromSource job command source) outcome old new
-stop_told job command source cause outcome status old new h p s f = record {
-  end = Stops cause;
-  reached = inl (climb_stop answer_at (SourceLadder command.file source) _ cause h);
-  left = f;
-  printed = subst (λ status. IsPrinted (answer_of cause) status old new) (sym s) p;
-}
+source_told : (job : Job) (command : Command) (source : List ℕ) (cause : Cause) (outcome : Outcome) (status : Status) (old new : SinkState) → Is (SourceLadder command.file source) (Stops cause) → IsPrinted (answer_of cause) status old new → outcome.status ≡ status → outcome.finished ≡ None → IsOnlyOutcome (FromSource job command source) outcome old new
+source_told job command source cause outcome status old new h p s f =
+    stop_told (FromSource job command source) cause outcome status old new (inl (climb_stop answer_at (SourceLadder command.file source) _ cause h)) p s f
 
--- a source whose warnings were printed
-pub check_told : (job : Job) (command : Command) (source : List ℕ) (unit : UnitParts) (warnings : List Warning) (outcome : Outcome) (status : Status) (old new : SinkState) → job ≡ Check → Is (SourceLadder command.file source) (GoesOn unit) → AreWarnings unit warnings → IsPrinted (answer_by command.file source unit warnings None) status old new → outcome.status ≡ status → outcome.finished ≡ None → IsOnlyOutcome (FromSource job command source) outcome old new
-check_told job command source unit warnings outcome status old new is h w p s f =
+-- a source of which was printed what is warned of
+pub check_told : (job : Job) (command : Command) (source : List ℕ) (read : Reading) (verdicts : Report) (outcome : Outcome) (status : Status) (old new : SinkState) → job ≡ Check → Is (SourceLadder command.file source) (GoesOn read) → AreVerdicts read.unit verdicts
+    → IsPrinted (answer_by (warned_in command.file source read verdicts) None) status old new → outcome.status ≡ status → outcome.finished ≡ None → IsOnlyOutcome (FromSource job command source) outcome old new
+check_told job command source read verdicts outcome status old new is h w p s f =
     subst (λ job. IsOnlyOutcome (FromSource job command source) outcome old new) (sym is) (record {
-      end = GoesOn (findings command.file source unit warnings None);
-      reached = inl (climb answer_at (SourceLadder command.file source) _ unit _ h (job_checked command.file source unit warnings w));
+      end = GoesOn (findings command.file source read verdicts None);
+      reached = inl (climb answer_at (SourceLadder command.file source) _ read _ h (job_checked command.file source read verdicts w));
       left = f;
-      printed = subst (λ status. IsPrinted (answer_by command.file source unit warnings None) status old new) (sym s) p;
+      printed = subst (λ status. IsPrinted (answer_by (warned_in command.file source read verdicts) None) status old new) (sym s) p;
     })
 
-step_reached : (command : Command) (source : List ℕ) (unit : UnitParts) (end : Rung Findings) → Is (SourceLadder command.file source) (GoesOn unit) → Gives answer_at (JobLadder Step command source unit) end ⊎ (end ≡ Stops OutOfMemory) → Gives answer_at (FromSource Step command source) end ⊎ (end ≡ Stops OutOfMemory)
-step_reached command source unit end h (inl g) = inl (climb answer_at (SourceLadder command.file source) _ unit end h g)
-step_reached command source unit end h (inr e) = inr e
-
 -- a source whose unit was stepped
-pub step_told : (job : Job) (command : Command) (source : List ℕ) (unit : UnitParts) (outcome : Outcome) (old new : SinkState) → job ≡ Step → Is (SourceLadder command.file source) (GoesOn unit) → IsOnlyOutcome (JobLadder Step command source unit) outcome old new → IsOnlyOutcome (FromSource job command source) outcome old new
-step_told job command source unit outcome old new is h o =
+pub step_told : (job : Job) (command : Command) (source : List ℕ) (read : Reading) (outcome : Outcome) (old new : SinkState) → job ≡ Step → Is (SourceLadder command.file source) (GoesOn read) → IsOnlyOutcome (StepLadder command source read) outcome old new → IsOnlyOutcome (FromSource job command source) outcome old new
+step_told job command source read outcome old new is h o =
     subst (λ job. IsOnlyOutcome (FromSource job command source) outcome old new) (sym is)
-    (record { end = o.end; reached = step_reached command source unit o.end h o.reached; left = o.left; printed = o.printed })
+    (climb_told (SourceLadder command.file source) _ read outcome old new h o)
 
 -- what came of the contents of the file came of the command
 pub commanded : (command : Command) (before after : FilesState) (source : List ℕ) (outcome : Outcome) (old new : SinkState) → IsContents (before.contents command.file) source → IsOnlyOutcome (FromSource command.job command source) outcome old new → IsOutcome (CommandLadder command before after) outcome old new
@@ -107,26 +99,30 @@ refused command before after NoMemory outcome status old new h p s f = record {
   printed = subst (λ status. IsPrinted (answer_of OutOfMemory) status old new) (sym s) p;
 }
 refused command before after TooLong outcome status old new h p s f =
-    commanded command before after h.0 outcome old new h.1 (stop_told command.job command h.0 _ outcome status old new h.2 p s f)
+    commanded command before after h.0 outcome old new h.1 (source_told command.job command h.0 _ outcome status old new h.2 p s f)
 refused command before after (Misspelled number line column) outcome status old new h p s f =
-    commanded command before after h.0 outcome old new h.1 (stop_told command.job command h.0 _ outcome status old new h.2 p s f)
+    commanded command before after h.0 outcome old new h.1 (source_told command.job command h.0 _ outcome status old new h.2 p s f)
 refused command before after (Unread number line column) outcome status old new h p s f =
-    commanded command before after h.0 outcome old new h.1 (stop_told command.job command h.0 _ outcome status old new h.2 p s f)
-refused command before after NotBuilt outcome status old new h p s f =
-    commanded command before after h.0 outcome old new h.1 (stop_told command.job command h.0 _ outcome status old new h.2 p s f)
+    commanded command before after h.0 outcome old new h.1 (source_told command.job command h.0 _ outcome status old new h.2 p s f)
+refused command before after (Untyped number line column) outcome status old new h p s f =
+    commanded command before after h.0 outcome old new h.1 (source_told command.job command h.0 _ outcome status old new h.2 p s f)
+refused command before after (TooLarge limit) outcome status old new h p s f =
+    commanded command before after h.0 outcome old new h.1 (source_told command.job command h.0 _ outcome status old new h.2 p s f)
 
 pub refused_determined : (command : Command) (before after : FilesState) (refusal : Refusal) (outcome : Outcome) (status : Status) (old new : SinkState) → IsFileRefused before after command.file refusal → IsPrinted (answer_of (cause_of command.file refusal)) status old new → outcome.status ≡ status → outcome.finished ≡ None → IsUndisturbed command.file before after old new → outcome.status ≢ StatusNoMemory → HasTheAnswer (CommandLadder command before after) outcome old new
 refused_determined command before after ReadFault outcome status old new h p s f u room = absurd (u.read h)
 refused_determined command before after NoMemory outcome status old new h p s f u room =
     absurd (room (s ∙ whole_status command before after (answer_of OutOfMemory) status old new u p))
 refused_determined command before after TooLong outcome status old new h p s f u room =
-    determined command before after h.0 outcome old new h.1 (stop_told command.job command h.0 _ outcome status old new h.2 p s f) u room
+    determined command before after h.0 outcome old new h.1 (source_told command.job command h.0 _ outcome status old new h.2 p s f) u room
 refused_determined command before after (Misspelled number line column) outcome status old new h p s f u room =
-    determined command before after h.0 outcome old new h.1 (stop_told command.job command h.0 _ outcome status old new h.2 p s f) u room
+    determined command before after h.0 outcome old new h.1 (source_told command.job command h.0 _ outcome status old new h.2 p s f) u room
 refused_determined command before after (Unread number line column) outcome status old new h p s f u room =
-    determined command before after h.0 outcome old new h.1 (stop_told command.job command h.0 _ outcome status old new h.2 p s f) u room
-refused_determined command before after NotBuilt outcome status old new h p s f u room =
-    determined command before after h.0 outcome old new h.1 (stop_told command.job command h.0 _ outcome status old new h.2 p s f) u room
+    determined command before after h.0 outcome old new h.1 (source_told command.job command h.0 _ outcome status old new h.2 p s f) u room
+refused_determined command before after (Untyped number line column) outcome status old new h p s f u room =
+    determined command before after h.0 outcome old new h.1 (source_told command.job command h.0 _ outcome status old new h.2 p s f) u room
+refused_determined command before after (TooLarge limit) outcome status old new h p s f u room =
+    determined command before after h.0 outcome old new h.1 (source_told command.job command h.0 _ outcome status old new h.2 p s f) u room
 
 -- what came of a command came of its words
 pub worded : (words : List (List ℕ)) (before after : FilesState) (command : Command) (outcome : Outcome) (old new : SinkState) → served_command words ≡ Some command → IsOutcome (CommandLadder command before after) outcome old new → IsOutcome (Ladder words before after) outcome old new

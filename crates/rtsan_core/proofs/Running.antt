@@ -4,8 +4,6 @@ use Rattle.std.specs.Option.{option_to_list}
 use Rattle.std.specs.List.{list_any}
 use Rattle.built_unit.specs.Units.{UnitParts}
 use Rattle.ctx_set.specs.declared.steps.StackStep.{StackStep}
-use Rattle.eff_check.specs.declared.Warning.{Warning}
-use Rattle.eff_text.specs.WarningText.{warnings_text}
 use Rattle.built_code.specs.Machine.{Program}
 use Rattle.built_reports.specs.RunText.{reports_text, thread_line}
 use Rattle.built_reports.specs.Totals.{counted}
@@ -20,52 +18,55 @@ use Rattle.rtsan_core.specs.declared.finished.Finished.{Finished}
 use Rattle.rtsan_core.specs.declared.status.Status.{Status}
 use Rattle.rtsan_core.specs.Found.{HasOneRun, ended_of}
 use Rattle.rtsan_core.specs.Outcomes.{Answer, answer_by}
-use Rattle.rtsan_core.specs.Runs.{IsFinished, IsEndedThread, is_full, is_trapped, is_stopped, status_by, warned_status, run_status, run_text, endings_text}
+use Rattle.rtsan_core.specs.Runs.{Warned, Left, IsFinished, is_full, is_trapped, is_stopped, status_by, warned_status, warned_text, run_status, run_text, endings_text}
 
 -- the status and the text of a run that left one thread, by its number and ending, the stacks and the total
-abbrev status_seen : List Warning → (total : ℕ) → End → Status
-status_seen warnings total end =
-    status_by (nat_lt 0 total) (is_full end || false) (is_trapped end || false) (is_stopped end || false) (warned_status warnings)
+abbrev status_seen : (warned : Status) (total : ℕ) → End → Status
+status_seen warned total end =
+    status_by (nat_lt 0 total) (is_full end || false) (is_trapped end || false) (is_stopped end || false) warned
 
-abbrev text_seen : (file source : List ℕ) → UnitParts → List Warning → List StackCount → ℕ → End → List ℕ
-text_seen file source unit warnings stacks number end =
-    warnings_text file source unit warnings ++ (reports_text source unit stacks ++ (thread_line number end ++ []))
+abbrev text_seen : Warned → UnitParts → List StackCount → ℕ → End → List ℕ
+text_seen warned unit stacks number end =
+    warned_text warned ++ (reports_text warned.source unit stacks ++ (thread_line number end ++ []))
 
-seen_status : (warnings : List Warning) (f : Finished) (t : Ended) → f.threads ≡ t ∷ [] → run_status warnings f ≡ status_seen warnings f.total t.end
-seen_status warnings f t e =
-    ap (λ ts. status_by (nat_lt 0 f.total) (list_any (λ thread. is_full thread.end) ts) (list_any (λ thread. is_trapped thread.end) ts) (list_any (λ thread. is_stopped thread.end) ts) (warned_status warnings)) e
+abbrev pub left_of : UnitParts → Finished → Left
+left_of unit finished = record { unit = unit; finished = finished }
 
-seen_text : (file source : List ℕ) (unit : UnitParts) (warnings : List Warning) (f : Finished) (t : Ended) → f.threads ≡ t ∷ [] → run_text file source unit warnings f ≡ text_seen file source unit warnings f.stacks t.number t.end
+seen_status : (warned : Status) (f : Finished) (t : Ended) → f.threads ≡ t ∷ [] → run_status warned f ≡ status_seen warned f.total t.end
+seen_status warned f t e =
+    ap (λ ts. status_by (nat_lt 0 f.total) (list_any (λ thread. is_full thread.end) ts) (list_any (λ thread. is_trapped thread.end) ts) (list_any (λ thread. is_stopped thread.end) ts) warned) e
+
+seen_text : (warned : Warned) (unit : UnitParts) (f : Finished) (t : Ended) → f.threads ≡ t ∷ [] → run_text warned (left_of unit f) ≡ text_seen warned unit f.stacks t.number t.end
 unfolding run_text
-seen_text file source unit warnings f t e =
-    ap (λ ts. warnings_text file source unit warnings ++ (reports_text source unit f.stacks ++ endings_text ts)) e
+seen_text warned unit f t e =
+    ap (λ ts. warned_text warned ++ (reports_text warned.source unit f.stacks ++ endings_text ts)) e
 
 -- two finished runs of a unit have one status
-same_status : (warnings : List Warning) (unit : UnitParts) (entry : ℕ) (f g : Finished) → HasOneRun unit → IsFinished unit entry f → IsFinished unit entry g → run_status warnings f ≡ run_status warnings g
-same_status warnings unit entry f g one p q =
+same_status : (warned : Status) (unit : UnitParts) (entry : ℕ) (f g : Finished) → HasOneRun unit → IsFinished unit entry f → IsFinished unit entry g → run_status warned f ≡ run_status warned g
+same_status warned unit entry f g one p q =
     let trace = one.trace entry _ _ _ _ p.thread.run q.thread.run in
     let end = one.ending entry _ _ _ _ p.thread.run q.thread.run in
     let total : f.total ≡ g.total = p.total ∙ ap (λ t. length (report_stacks unit t)) trace ∙ sym q.total in
-    seen_status warnings f p.ended p.threads ∙ ap₂ (status_seen warnings) total end ∙ sym (seen_status warnings g q.ended q.threads)
+    seen_status warned f p.ended p.threads ∙ ap₂ (status_seen warned) total end ∙ sym (seen_status warned g q.ended q.threads)
 
 -- and one text
-same_text : (file source : List ℕ) (unit : UnitParts) (warnings : List Warning) (entry : ℕ) (f g : Finished) → HasOneRun unit → IsFinished unit entry f → IsFinished unit entry g → run_text file source unit warnings f ≡ run_text file source unit warnings g
-same_text file source unit warnings entry f g one p q =
+same_text : (warned : Warned) (unit : UnitParts) (entry : ℕ) (f g : Finished) → HasOneRun unit → IsFinished unit entry f → IsFinished unit entry g → run_text warned (left_of unit f) ≡ run_text warned (left_of unit g)
+same_text warned unit entry f g one p q =
     let trace = one.trace entry _ _ _ _ p.thread.run q.thread.run in
     let end = one.ending entry _ _ _ _ p.thread.run q.thread.run in
     let stacks : f.stacks ≡ g.stacks = p.stacks ∙ ap (λ t. counted (report_stacks unit t)) trace ∙ sym q.stacks in
     let number : p.ended.number ≡ q.ended.number = p.thread.number ∙ sym q.thread.number in
-    seen_text file source unit warnings f p.ended p.threads
-    ∙ ap (λ s. text_seen file source unit warnings s p.ended.number p.ended.end) stacks
-    ∙ ap₂ (text_seen file source unit warnings g.stacks) number end
-    ∙ sym (seen_text file source unit warnings g q.ended q.threads)
+    seen_text warned unit f p.ended p.threads
+    ∙ ap (λ s. text_seen warned unit s p.ended.number p.ended.end) stacks
+    ∙ ap₂ (text_seen warned unit g.stacks) number end
+    ∙ sym (seen_text warned unit g q.ended q.threads)
 
 abbrev answer_with : Status → List ℕ → Answer
 answer_with status text = record { status = status; text = text }
 
-pub same_answer : (file source : List ℕ) (unit : UnitParts) (warnings : List Warning) (entry : ℕ) (f g : Finished) → HasOneRun unit → IsFinished unit entry f → IsFinished unit entry g → answer_by file source unit warnings (Some f) ≡ answer_by file source unit warnings (Some g)
-same_answer file source unit warnings entry f g one p q =
-    ap₂ answer_with (same_status warnings unit entry f g one p q) (same_text file source unit warnings entry f g one p q)
+pub same_answer : (warned : Warned) (unit : UnitParts) (entry : ℕ) (f g : Finished) → HasOneRun unit → IsFinished unit entry f → IsFinished unit entry g → answer_by warned (Some (left_of unit f)) ≡ answer_by warned (Some (left_of unit g))
+same_answer warned unit entry f g one p q =
+    ap₂ answer_with (same_status (warned_status warned) unit entry f g one p q) (same_text warned unit entry f g one p q)
 
 -- the reports of a thread that made at most one
 reports_listed : (report : Option (List StackStep)) (stacks : List (List StackStep)) → MatchOption report (stacks ≡ []) (λ stack. stacks ≡ stack ∷ []) → stacks ≡ option_to_list report

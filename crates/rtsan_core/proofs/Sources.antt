@@ -1,21 +1,26 @@
 -- The rungs from a source to its unit: each is settled by what was found.
-use Rattle.std.proofs.Common.{◌≡◌, ℕ, ◌+◌, ◌<◌, ◌≤◌, List, length, Option, Some, None, refl, ap, ap₂, subst, sym, ◌∙◌, arith, replicate}
+use Rattle.std.proofs.Common.{◌≡◌, ℕ, ◌+◌, ◌<◌, ◌≤◌, List, [], length, Option, Some, None, refl, ap, ap₂, subst, sym, ◌∙◌, arith, replicate}
 use Rattle.std.proofs.lemmas.List.{length-replicate}
 use Rattle.c_text.specs.declared.Token.{Token}
 use Rattle.c_text.specs.Place.{LineColumn, line_column}
 use Rattle.c_text.specs.Spelling.{IsSpelled, IsFirstFault}
 use Rattle.c_tree.specs.declared.statements.Tree.{Tree}
 use Rattle.c_parse.specs.Parsed.{IsParsed, IsRefusedAt}
-use Rattle.built_unit.specs.Units.{UnitParts}
-use Rattle.built_form.specs.Built.{IsOfForm}
+use Rattle.core_unit.specs.declared.tables.UnitParts.{UnitParts}
+use Rattle.core_unit.specs.declared.units.Which.{Which}
+use Rattle.type_rules.specs.Units.{IsTyped, Breaks, Passes, outcome}
+use Rattle.type_rules.specs.declared.notes.TypeWarning.{TypeWarning}
+use Rattle.type_units.specs.Answers.{AreInOrder}
 use Rattle.rt_base.specs.Outside.{FilesState, IsContents, IsLongerThan}
 use Rattle.rtsan_core.specs.declared.reading.Refusal.{Refusal}
-use Rattle.rtsan_core.specs.declared.reading.Refusal.TheVariants.{ReadFault, TooLong, Misspelled as RefusedMisspelled, Unread as RefusedUnread, NotBuilt as RefusedNotBuilt, NoMemory}
-use Rattle.rtsan_core.specs.Causes.{SourceTooLong, Misspelled, Unread, NotBuilt}
+use Rattle.rtsan_core.specs.declared.reading.Refusal.TheVariants.{ReadFault, TooLong, Misspelled as RefusedMisspelled, Unread as RefusedUnread, Untyped as RefusedUntyped, TooLarge as RefusedTooLarge, NoMemory}
+use Rattle.rtsan_core.specs.Causes.{SourceTooLong, Misspelled, Unread, Untyped, UnitTooLarge}
 use Rattle.rtsan_core.specs.Rungs.{Rung, Stops, GoesOn}
-use Rattle.rtsan_core.specs.Ladder.{IsShort, IsSpelling, IsGrammar, IsForm, SourceLadder}
-use Rattle.rtsan_core.specs.Found.{Is, itself, AreTheTokens, IsTheTree, IsRefusedFor, IsFileRefused}
+use Rattle.rtsan_core.specs.declared.reading.Reading.{Reading}
+use Rattle.rtsan_core.specs.Ladder.{IsShort, IsSpelling, IsGrammar, IsTyping, IsTypingEnd, SourceLadder}
+use Rattle.rtsan_core.specs.Found.{Is, itself, AreTheTokens, IsTheTree, IsReadAs, IsRefusedFor, IsFileRefused}
 use Rattle.rtsan_core.proofs.Climbing.{climb, climb_stop}
+use Rattle.rtsan_core.proofs.OneOrder.{one_order}
 use Rattle.c_text.specs.declared.limits.TheConstants.{SOURCE_LIMIT}
 
 abbrev place_by : ℕ → ℕ → LineColumn
@@ -83,29 +88,60 @@ source_unread file source tokens number index place line column short read e f r
     (climb_stop itself (IsGrammar file source tokens) _ (Unread file (line_column source place) number)
     (record { is = (number, index, place, refused, refl); only = unread_only file source tokens number index place only unparsed }))))
 
-other_only : (source : List ℕ) (tokens : List Token) → ((unit : UnitParts) → IsOfForm source tokens unit → ⊥) → (other : Rung UnitParts) → IsForm source tokens other → other ≡ Stops NotBuilt
-other_only source tokens none (Stops c) h = ap Stops h.1
-other_only source tokens none (GoesOn unit) h = absurd (none unit h)
+-- what the typing noted has one order
+typed_only : (file source : List ℕ) (tokens : List Token) (unit : UnitParts) (noted warnings : List TypeWarning) → AreInOrder noted warnings → (other : Rung Reading) → IsTypingEnd file source tokens (IsTyped unit noted) other
+    → other ≡ GoesOn (record { tokens = tokens; unit = unit; warnings = warnings })
+typed_only file source tokens unit noted warnings ordered other h =
+    h.2 ∙ ap (λ ws. GoesOn (record { tokens = tokens; unit = unit; warnings = ws })) (one_order noted h.0 warnings h.1 ordered)
 
-built_only : (source : List ℕ) (tokens : List Token) (unit : UnitParts) → IsOfForm source tokens unit → ((other : UnitParts) → IsOfForm source tokens other → other ≡ unit) → (other : Rung UnitParts) → IsForm source tokens other → other ≡ GoesOn unit
-built_only source tokens unit formed only (Stops c) h = absurd (h.0 unit formed)
-built_only source tokens unit formed only (GoesOn other) h = ap GoesOn (only other h)
+-- a tree that is typed
+is_typed : (file source : List ℕ) (tokens : List Token) (tree : Tree) (unit : UnitParts) (noted warnings : List TypeWarning) → outcome source [] tree ≡ IsTyped unit noted → AreInOrder noted warnings
+    → Is (IsTyping file source tokens tree) (GoesOn (record { tokens = tokens; unit = unit; warnings = warnings }))
+is_typed file source tokens tree unit noted warnings e ordered = record {
+  is = subst (λ o. IsTypingEnd file source tokens o (GoesOn (record { tokens = tokens; unit = unit; warnings = warnings }))) (sym e) (warnings, ordered, refl);
+  only = λ other h. typed_only file source tokens unit noted warnings ordered other (subst (λ o. IsTypingEnd file source tokens o other) e h);
+}
 
--- a source that is read and is of another form
-pub source_other : (file source : List ℕ) (tokens : List Token) (tree : Tree) → length source ≤ SOURCE_LIMIT → AreTheTokens source tokens → IsTheTree source tokens tree → ((unit : UnitParts) → IsOfForm source tokens unit → ⊥) → Is (SourceLadder file source) (Stops NotBuilt)
-source_other file source tokens tree short read parsed none =
+-- a tree that breaks a rule, or passes a limit
+is_untyped : (file source : List ℕ) (tokens : List Token) (tree : Tree) (number place : ℕ) → outcome source [] tree ≡ Breaks number place → Is (IsTyping file source tokens tree) (Stops (Untyped file (line_column source place) number))
+is_untyped file source tokens tree number place e = record {
+  is = subst (λ o. IsTypingEnd file source tokens o (Stops (Untyped file (line_column source place) number))) (sym e) refl;
+  only = λ other h. subst (λ o. IsTypingEnd file source tokens o other) e h;
+}
+
+is_large : (file source : List ℕ) (tokens : List Token) (tree : Tree) (limit : Which) → outcome source [] tree ≡ Passes limit → Is (IsTyping file source tokens tree) (Stops (UnitTooLarge limit))
+is_large file source tokens tree limit e = record {
+  is = subst (λ o. IsTypingEnd file source tokens o (Stops (UnitTooLarge limit))) (sym e) refl;
+  only = λ other h. subst (λ o. IsTypingEnd file source tokens o other) e h;
+}
+
+-- a source whose tree is typed
+pub source_typed : (source : List ℕ) (tokens : List Token) (tree : Tree) (unit : UnitParts) (noted warnings : List TypeWarning) → length source ≤ SOURCE_LIMIT → AreTheTokens source tokens → IsTheTree source tokens tree → outcome source [] tree ≡ IsTyped unit noted → AreInOrder noted warnings
+    → IsReadAs source (record { tokens = tokens; unit = unit; warnings = warnings })
+source_typed source tokens tree unit noted warnings short read parsed e ordered = record {
+  reads = λ file.
+      climb itself (IsShort source) _ tt _ (is_short source short)
+      (climb itself (IsSpelling file source) _ tokens _ (read.spelled file)
+      (climb itself (IsGrammar file source tokens) _ tree _ (parsed.parsed file) (is_typed file source tokens tree unit noted warnings e ordered)));
+  within = read.within;
+  few = read.few;
+  ordered = read.ordered;
+}
+
+-- a source that is read, of which this rule of typing is the first that is broken
+pub source_untyped : (file source : List ℕ) (tokens : List Token) (tree : Tree) (number place line column : ℕ) → length source ≤ SOURCE_LIMIT → AreTheTokens source tokens → IsTheTree source tokens tree → line ≡ (line_column source place).line → column ≡ (line_column source place).column → outcome source [] tree ≡ Breaks number place → Is (SourceLadder file source) (Stops (Untyped file (place_by line column) number))
+source_untyped file source tokens tree number place line column short read parsed e f breaks =
+    subst (λ p. Is (SourceLadder file source) (Stops (Untyped file p number))) (placed source place line column e f)
+    (climb itself (IsShort source) _ tt _ (is_short source short)
+    (climb itself (IsSpelling file source) _ tokens _ (read.spelled file)
+    (climb itself (IsGrammar file source tokens) _ tree _ (parsed.parsed file) (is_untyped file source tokens tree number place breaks))))
+
+-- a source that is read and typed, whose unit passes this limit
+pub source_large : (file source : List ℕ) (tokens : List Token) (tree : Tree) (limit : Which) → length source ≤ SOURCE_LIMIT → AreTheTokens source tokens → IsTheTree source tokens tree → outcome source [] tree ≡ Passes limit → Is (SourceLadder file source) (Stops (UnitTooLarge limit))
+source_large file source tokens tree limit short read parsed passes =
     climb itself (IsShort source) _ tt _ (is_short source short)
     (climb itself (IsSpelling file source) _ tokens _ (read.spelled file)
-    (climb itself (IsGrammar file source tokens) _ tree _ (parsed.parsed file)
-    (record { is = (none, refl); only = other_only source tokens none })))
-
--- a source that reads as a unit
-pub source_built : (file source : List ℕ) (tokens : List Token) (tree : Tree) (unit : UnitParts) → length source ≤ SOURCE_LIMIT → AreTheTokens source tokens → IsTheTree source tokens tree → IsOfForm source tokens unit → ((other : UnitParts) → IsOfForm source tokens other → other ≡ unit) → Is (SourceLadder file source) (GoesOn unit)
-source_built file source tokens tree unit short read parsed formed only =
-    climb itself (IsShort source) _ tt _ (is_short source short)
-    (climb itself (IsSpelling file source) _ tokens _ (read.spelled file)
-    (climb itself (IsGrammar file source tokens) _ tree _ (parsed.parsed file)
-    (record { is = formed; only = built_only source tokens unit formed only })))
+    (climb itself (IsGrammar file source tokens) _ tree _ (parsed.parsed file) (is_large file source tokens tree limit passes)))
 
 -- contents that are told to be longer than the limit are, and else some are
 pub some_longer : (contents : Option (List ℕ)) (limit : ℕ) → IsLongerThan contents limit → (source : List ℕ) × IsContents contents source × (limit < length source)
@@ -123,4 +159,5 @@ file_refused before after file source NoMemory contents h = tt
 file_refused before after file source TooLong contents h = (source, contents, h file)
 file_refused before after file source (RefusedMisspelled number line column) contents h = (source, contents, h file)
 file_refused before after file source (RefusedUnread number line column) contents h = (source, contents, h file)
-file_refused before after file source RefusedNotBuilt contents h = (source, contents, h file)
+file_refused before after file source (RefusedUntyped number line column) contents h = (source, contents, h file)
+file_refused before after file source (RefusedTooLarge limit) contents h = (source, contents, h file)

@@ -1,23 +1,26 @@
 -- The rows of statuses that have one line: each rung stops with a cause whose status is that of its row.
-use Rattle.std.proofs.Common.{◌≡◌, ◌≢◌, ℕ, ◌<◌, ◌⊎◌, inl, inr, List, [], ◌∷◌, length, nat_lt, Bool, true, false, Option, Some, None, refl, ap, sym, subst, ◌∙◌}
-use Rattle.built_unit.specs.Units.{UnitParts}
-use Rattle.eff_check.specs.declared.Warning.{Warning}
-use Rattle.rt_base.specs.Outside.{FilesState, SinkState, Rose, IsContents}
+use Rattle.std.proofs.Common.{◌≡◌, ℕ, ◌<◌, inl, inr, List, [], ◌∷◌, length, nat_lt, Bool, true, false, Option, Some, None, refl, ap, sym, subst, ◌∙◌}
+use Rattle.type_rules.specs.declared.notes.TypeWarning.{TypeWarning}
+use Rattle.unit_check.specs.declared.verdicts.Warning.{Warning}
+use Rattle.c_text.specs.declared.Token.{Token}
+use Rattle.rt_base.specs.Outside.{FilesState, SinkState, Rose}
 use Rattle.c_text.specs.declared.limits.TheConstants.{SOURCE_LIMIT}
-use Rattle.rtsan_core.specs.declared.finished.Finished.{Finished}
+use Rattle.rtsan_core.specs.declared.reading.Reading.{Reading}
 use Rattle.rtsan_core.specs.declared.status.Outcome.{Outcome}
 use Rattle.rtsan_core.specs.declared.status.Status.{Status}
-use Rattle.rtsan_core.specs.declared.status.Status.TheVariants.{Clean, Warned, Reported, Refused, Usage, ReadFault, WriteFault, NoMemory, Limit, Unlinked, Trapped, Stopped as StatusStopped}
+use Rattle.rtsan_core.specs.declared.status.Status.TheVariants.{Clean, Warned, Reported, Refused, Usage, ReadFault, WriteFault, Limit, Unlinked, Trapped, Stopped as StatusStopped}
 use Rattle.command.specs.declared.command.Command.{Command}
 use Rattle.command.specs.declared.command.Job.{Job}
 use Rattle.command.specs.declared.command.Job.TheVariants.{Check, Step, Run, Gen}
 use Rattle.rtsan_core.specs.Served.{served_command}
-use Rattle.rtsan_core.specs.Causes.{Cause, OutOfMemory, status_of}
-use Rattle.rtsan_core.specs.Rungs.{Rung, Stops, GoesOn, Then, Stopped, WentOn}
-use Rattle.rtsan_core.specs.Runs.{status_by, warned_status, has_full, has_trapped, has_stopped}
-use Rattle.rtsan_core.specs.Ladder.{Findings, SourceLadder, JobLadder, CommandLadder, Ladder, IsChecked, Checked, IsStepped, Stepped}
+use Rattle.core_unit.specs.declared.units.Which.{Which}
+use Rattle.type_rules.specs.Units.{Outcome as TypingOutcome, IsTyped, Breaks, Passes, outcome as typing_outcome}
+use Rattle.rtsan_core.specs.Causes.{Cause, UnitTooLarge, OutOfMemory, status_of}
+use Rattle.rtsan_core.specs.Rungs.{Rung, Stops, GoesOn, Stopped, WentOn}
+use Rattle.rtsan_core.specs.Runs.{Left, status_by, status_with, warned_status, has_full, has_trapped, has_stopped}
+use Rattle.rtsan_core.specs.Ladder.{Findings, SourceLadder, IsTypingEnd, JobLadder, Ladder, Checked, Stepped}
 use Rattle.rtsan_core.specs.Outcomes.{IsPrinted, Whole, Cut, answer_at, answer_by, left_at, Ends, There, Early, IsOutcome}
-use Rattle.rtsan_core.specs.Rows.{HasLine, IsStopped, FileFailed, IsRefused, HasSource, HasLongSource, HasLongCode, IsOverLimit, RunsUnit, IsUnlinked}
+use Rattle.rtsan_core.specs.Rows.{HasLine, IsStopped, FileFailed, IsRefused, HasSource, IsOverLimit, StepsSource, IsUnlinked}
 
 -- when each status comes that has one line, and the write fault
 abbrev pub Row : (words : List (List ℕ)) (before after : FilesState) (old new : SinkState) → Status → Type 0
@@ -32,34 +35,55 @@ Row words before after old new status = Unit {0}
 same_cause : {V : Type 0} (cause other : Cause) → ◌≡◌ {A = Rung V} (Stops cause) (Stops other) → cause ≡ other
 same_cause cause other e = cc
 
--- what a source stops with is told by its length, or it is refused
-source_stops : (file source : List ℕ) (cause : Cause) → SourceLadder file source (Stops cause) → ((SOURCE_LIMIT < length source) × (status_of cause ≡ Limit)) ⊎ (status_of cause ≡ Refused)
-source_stops file source cause (Stopped c h e) = inl (h.0, ap status_of (same_cause cause c e ∙ h.1))
-source_stops file source cause (WentOn u s (Stopped c h e)) = inr (ap status_of (same_cause cause c e ∙ h.3))
-source_stops file source cause (WentOn u s (WentOn tokens t (Stopped c h e))) = inr (ap status_of (same_cause cause c e ∙ h.4))
-source_stops file source cause (WentOn u s (WentOn tokens t (WentOn tree g f))) = inr (ap status_of f.1)
+-- what a source stops with is told by its length or by a limit that its unit passes, or it is refused
+pub data StopsBy (source : List ℕ) (cause : Cause) : Type 0 where
+  ByLength : SOURCE_LIMIT < length source → status_of cause ≡ Limit → StopsBy source cause
+  ByLimit : (limit : Which) → cause ≡ UnitTooLarge limit → StopsBy source cause
+  ByRefusal : status_of cause ≡ Refused → StopsBy source cause
+
+typing_stops : (file source : List ℕ) (tokens : List Token) (cause : Cause) (typing : TypingOutcome) → IsTypingEnd file source tokens typing (Stops cause) → StopsBy source cause
+typing_stops file source tokens cause (IsTyped unit noted) h = let e = h.2 in let clash : ⊥ = cc in absurd clash
+typing_stops file source tokens cause (Breaks number place) e = ByRefusal (ap status_of (same_cause cause _ e))
+typing_stops file source tokens cause (Passes limit) e = ByLimit limit (same_cause cause _ e)
+
+source_stops : (file source : List ℕ) (cause : Cause) → SourceLadder file source (Stops cause) → StopsBy source cause
+source_stops file source cause (Stopped c h e) = ByLength h.0 (ap status_of (same_cause cause c e ∙ h.1))
+source_stops file source cause (WentOn u s (Stopped c h e)) = ByRefusal (ap status_of (same_cause cause c e ∙ h.3))
+source_stops file source cause (WentOn u s (WentOn tokens t (Stopped c h e))) = ByRefusal (ap status_of (same_cause cause c e ∙ h.4))
+source_stops file source cause (WentOn u s (WentOn tokens t (WentOn tree g y))) = typing_stops file source tokens cause (typing_outcome source [] tree) y
 
 source_row : (words : List (List ℕ)) (before after : FilesState) (old new : SinkState) (command : Command) (source : List ℕ) (cause : Cause) → HasSource words before command source → SourceLadder command.file source (Stops cause) → Row words before after old new (status_of cause)
-source_row words before after old new command source cause has h = by (source_stops command.file source cause h)
+source_row words before after old new command source cause has h = by cause (source_stops command.file source cause h) h
   where
-    by : ((SOURCE_LIMIT < length source) × (status_of cause ≡ Limit)) ⊎ (status_of cause ≡ Refused) → Row words before after old new (status_of cause)
-    by (inl l) = subst (λ s. Row words before after old new s) (sym l.1) (inl (record { command = command; source = source; has = has; long = l.0 }))
-    by (inr r) = subst (λ s. Row words before after old new s) (sym r) (inl (record { command = command; source = source; has = has; cause = cause; stops = h; status = r }))
+    by : (cause : Cause) → StopsBy source cause → SourceLadder command.file source (Stops cause) → Row words before after old new (status_of cause)
+    by cause (ByLength long l) h = subst (λ s. Row words before after old new s) (sym l) (inl (record { command = command; source = source; has = has; long = long }))
+    by cause (ByLimit limit e) h =
+        subst (λ c. Row words before after old new (status_of c)) (sym e)
+        (inr (inl (record { command = command; source = source; has = has; limit = limit; passes = subst (λ c. SourceLadder command.file source (Stops c)) e h })))
+    by cause (ByRefusal r) h = subst (λ s. Row words before after old new s) (sym r) (inl (record { command = command; source = source; has = has; cause = cause; stops = h; status = r }))
 
-job_row : (words : List (List ℕ)) (before after : FilesState) (old new : SinkState) (command : Command) (source : List ℕ) (unit : UnitParts) (cause : Cause) → HasSource words before command source → SourceLadder command.file source (GoesOn unit) → (job : Job) → command.job ≡ job → JobLadder job command source unit (Stops cause) → Row words before after old new (status_of cause)
-job_row words before after old new command source unit cause has reads Check is (Checked ws w e) = let clash : ⊥ = cc in absurd clash
-job_row words before after old new command source unit cause has reads Step is (Stopped c h e) =
+-- what a `step` of a source that was read stops with
+step_row : (words : List (List ℕ)) (before after : FilesState) (old new : SinkState) (command : Command) (steps : StepsSource words before command) (cause : Cause) → JobLadder Step command steps.source steps.read (Stops cause) → Row words before after old new (status_of cause)
+step_row words before after old new command steps cause (Stopped c h e) =
     subst (λ s. Row words before after old new s) (sym (ap status_of (same_cause cause c e ∙ h.1)))
-    (inr (record { command = command; unit = unit; steps = record { steps = is; source = source; has = has; reads = reads }; options = h.0 }))
-job_row words before after old new command source unit cause has reads Step is (WentOn t plain (Stopped c h e)) =
+    (inr (inl (record { command = command; steps = steps; other = h.0 })))
+step_row words before after old new command steps cause (WentOn unit formed (Stopped c h e)) =
+    subst (λ s. Row words before after old new s) (sym (ap status_of (same_cause cause c e ∙ h.1)))
+    (inr (inr (record { command = command; unit = unit; steps = record { steps = steps; formed = formed }; options = h.0 })))
+step_row words before after old new command steps cause (WentOn unit formed (WentOn t plain (Stopped c h e))) =
     subst (λ s. Row words before after old new s) (sym (ap status_of (same_cause cause c e ∙ h.2)))
-    (record { unit = unit; runs = record { command = command; steps = record { steps = is; source = source; has = has; reads = reads }; plain = plain }; name = h.0; undefined = h.1 })
-job_row words before after old new command source unit cause has reads Step is (WentOn t plain (WentOn u l (Stopped c h e))) =
+    (record { unit = unit; runs = record { command = command; steps = record { steps = steps; formed = formed }; plain = plain }; name = h.0; undefined = h.1 })
+step_row words before after old new command steps cause (WentOn unit formed (WentOn t plain (WentOn u l (Stopped c h e)))) =
     subst (λ s. Row words before after old new s) (sym (ap status_of (same_cause cause c e ∙ h.1)))
-    (inr (record { unit = unit; runs = record { command = command; steps = record { steps = is; source = source; has = has; reads = reads }; plain = plain }; long = h.0 }))
-job_row words before after old new command source unit cause has reads Step is (WentOn t plain (WentOn u l (WentOn v s (Stepped ws w entry starts left f e)))) = let clash : ⊥ = cc in absurd clash
-job_row words before after old new command source unit cause has reads Run is h = absurd h
-job_row words before after old new command source unit cause has reads (Gen count) is h = absurd h
+    (inr (inr (record { unit = unit; runs = record { command = command; steps = record { steps = steps; formed = formed }; plain = plain }; long = h.0 })))
+step_row words before after old new command steps cause (WentOn unit formed (WentOn t plain (WentOn u l (WentOn v s (Stepped ws w entry starts left f e))))) = let clash : ⊥ = cc in absurd clash
+
+job_row : (words : List (List ℕ)) (before after : FilesState) (old new : SinkState) (command : Command) (source : List ℕ) (read : Reading) (cause : Cause) → HasSource words before command source → SourceLadder command.file source (GoesOn read) → (job : Job) → command.job ≡ job → JobLadder job command source read (Stops cause) → Row words before after old new (status_of cause)
+job_row words before after old new command source read cause has reads Check is (Checked ws w e) = let clash : ⊥ = cc in absurd clash
+job_row words before after old new command source read cause has reads Step is h =
+    step_row words before after old new command (record { steps = is; source = source; has = has; read = read; reads = reads }) cause h
+job_row words before after old new command source read cause has reads Run is h = absurd h
+job_row words before after old new command source read cause has reads (Gen count) is h = absurd h
 
 -- a rung for each row
 stop_row : (words : List (List ℕ)) (before after : FilesState) (old new : SinkState) (cause : Cause) → Ladder words before after (Stops cause) → Row words before after old new (status_of cause)
@@ -71,12 +95,13 @@ stop_row words before after old new cause (WentOn command named (Stopped c h e))
 stop_row words before after old new cause (WentOn command named (WentOn source contents (Stopped c h e))) =
     subst (λ c. Row words before after old new (status_of c)) (sym (same_cause cause c e))
     (source_row words before after old new command source c (record { named = named; contents = contents }) h)
-stop_row words before after old new cause (WentOn command named (WentOn source contents (WentOn unit reads job))) =
-    job_row words before after old new command source unit cause (record { named = named; contents = contents }) reads command.job refl job
+stop_row words before after old new cause (WentOn command named (WentOn source contents (WentOn read reads job))) =
+    job_row words before after old new command source read cause (record { named = named; contents = contents }) reads command.job refl job
 
-warned_row : (P : Status → Type 0) → P Clean → P Warned → (warnings : List Warning) → P (warned_status warnings)
-warned_row P clean warned [] = clean
-warned_row P clean warned (w ∷ ws) = warned
+pub warned_row : (P : Status → Type 0) → P Clean → P Warned → (notes : List TypeWarning) (warnings : List Warning) → P (status_with notes warnings)
+warned_row P clean warned [] [] = clean
+warned_row P clean warned [] (w ∷ ws) = warned
+warned_row P clean warned (n ∷ ns) ws = warned
 
 by_row : (P : Status → Type 0) → P Reported → P Trapped → P StatusStopped → (r f t s : Bool) (status : Status) → P status → P (status_by r f t s status)
 by_row P reported trapped stopped true f t s status p = reported
@@ -89,9 +114,12 @@ by_row P reported trapped stopped false false false false status p = p
 pub end_row : (P : Status → Type 0) → P Clean → P Warned → P Reported → P Trapped → P StatusStopped → (f : Findings) → P (answer_at (GoesOn f)).status
 end_row P clean warned reported trapped stopped f = by f.left
   where
-    by : (left : Option Finished) → P (answer_by f.file f.source f.unit f.warnings left).status
-    by None = warned_row P clean warned f.warnings
-    by (Some left) = by_row P reported trapped stopped (nat_lt 0 left.total) (has_full left) (has_trapped left) (has_stopped left) (warned_status f.warnings) (warned_row P clean warned f.warnings)
+    of_warnings : P (warned_status f.warned)
+    of_warnings = warned_row P clean warned f.warned.noted f.warned.verdicts.warnings
+
+    by : (left : Option Left) → P (answer_by f.warned left).status
+    by None = of_warnings
+    by (Some left) = by_row P reported trapped stopped (nat_lt 0 left.finished.total) (has_full left.finished) (has_trapped left.finished) (has_stopped left.finished) (warned_status f.warned) of_warnings
 
 printed_row : (words : List (List ℕ)) (before after : FilesState) (old new : SinkState) (status : Status) (end : Rung Findings) → Ends (Ladder words before after) end → IsPrinted (answer_at end) status old new → Row words before after old new status
 printed_row words before after old new status end r (Cut s f) = subst (λ s. Row words before after old new s) (sym s) f.rose

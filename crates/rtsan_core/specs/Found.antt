@@ -6,10 +6,9 @@ use Rattle.c_text.specs.Spelling.{IsWithin, IsInOrder}
 use Rattle.c_tree.specs.declared.statements.Tree.{Tree}
 use Rattle.built_codegen.specs.declared.compiling.CompileRefusal.{CompileRefusal}
 use Rattle.built_codegen.specs.declared.compiling.CompileRefusal.TheVariants.{NoEntry, Undefined as UndefinedFunction, Long, NoMemory as NoMemoryToCompile}
-use Rattle.built_form.specs.Built.{AreCallsWithin}
 use Rattle.built_unit.specs.Units.{UnitParts}
-use Rattle.eff_check.specs.Violations.{AreWarnings}
-use Rattle.eff_text.specs.WarningText.{function_name, ArePrintable}
+use Rattle.eff_text.specs.WarningText.{function_name}
+use Rattle.unit_check.specs.Verdicts.{AreVerdicts}
 use Rattle.rt_base.specs.Outside.{FilesState, SinkState, IsContents, Rose}
 use Rattle.built_model.specs.declared.runs.Made.{Made}
 use Rattle.built_model.specs.declared.runs.End.{End}
@@ -17,12 +16,13 @@ use Rattle.built_model.specs.Run.{IsRun}
 use Rattle.built_run.specs.declared.running.Ran.{Ran}
 use Rattle.rtsan_core.specs.declared.finished.Ended.{Ended}
 use Rattle.rtsan_core.specs.declared.reading.Found.{Found}
+use Rattle.rtsan_core.specs.declared.reading.Reading.{Reading}
 use Rattle.rtsan_core.specs.declared.reading.Refusal.{Refusal}
-use Rattle.rtsan_core.specs.declared.reading.Refusal.TheVariants.{ReadFault, TooLong, Misspelled, Unread, NotBuilt, NoMemory}
-use Rattle.rtsan_core.specs.Causes.{Cause, Unreadable, SourceTooLong, Misspelled as IsMisspelled, Unread as IsUnread, NotBuilt as IsNotBuilt, Undefined, CodeTooLong, OutOfMemory}
+use Rattle.rtsan_core.specs.declared.reading.Refusal.TheVariants.{ReadFault, TooLong, Misspelled, Unread, Untyped, TooLarge, NoMemory}
+use Rattle.rtsan_core.specs.Causes.{Cause, Unreadable, SourceTooLong, Misspelled as IsMisspelled, Unread as IsUnread, Untyped as IsUntyped, UnitTooLarge, Undefined, CodeTooLong, OutOfMemory}
 use Rattle.rtsan_core.specs.Rungs.{Rung, Stops, GoesOn}
-use Rattle.rtsan_core.specs.Runs.{entry_name}
-use Rattle.rtsan_core.specs.Ladder.{Findings, IsSpelling, IsGrammar, SourceLadder}
+use Rattle.rtsan_core.specs.Runs.{entry_name, Warned}
+use Rattle.rtsan_core.specs.Ladder.{Findings, warned_in, IsSpelling, IsGrammar, SourceLadder}
 use Rattle.rtsan_core.specs.Outcomes.{IsPrinted, answer_at, left_at}
 use Rattle.rtsan_core.specs.declared.status.Outcome.{Outcome}
 use Rattle.c_text.specs.declared.limits.TheConstants.{SOURCE_LIMIT}
@@ -50,9 +50,12 @@ pub record AreTheTokens (source : List ℕ) (tokens : List Token) : Type 0 where
 pub record IsTheTree (source : List ℕ) (tokens : List Token) (tree : Tree) : Type 0 where
   pub parsed : (file : List ℕ) → Is (IsGrammar file source tokens) (GoesOn tree)
 
--- the source reads as this unit
-abbrev pub IsTheUnit : List ℕ → UnitParts → Type 0
-IsTheUnit source unit = (file : List ℕ) → Is (SourceLadder file source) (GoesOn unit)
+-- the source is read so
+pub record IsReadAs (source : List ℕ) (read : Reading) : Type 0 where
+  pub reads : (file : List ℕ) → Is (SourceLadder file source) (GoesOn read)
+  pub within : All (IsWithin source) read.tokens
+  pub few : length read.tokens ≤ length source
+  pub ordered : IsInOrder read.tokens
 
 -- the cause that a refusal tells of a file
 abbrev pub cause_of : List ℕ → Refusal → Cause
@@ -60,7 +63,8 @@ cause_of file ReadFault = Unreadable file
 cause_of file TooLong = SourceTooLong
 cause_of file (Misspelled number line column) = IsMisspelled file (record { line = line; column = column }) number
 cause_of file (Unread number line column) = IsUnread file (record { line = line; column = column }) number
-cause_of file NotBuilt = IsNotBuilt
+cause_of file (Untyped number line column) = IsUntyped file (record { line = line; column = column }) number
+cause_of file (TooLarge limit) = UnitTooLarge limit
 cause_of file NoMemory = OutOfMemory
 
 -- the source stops with the cause of the refusal; want of memory says nothing
@@ -75,18 +79,20 @@ IsFileRefused before after file ReadFault = Rose (before.faults file) (after.fau
 IsFileRefused before after file NoMemory = Unit {0}
 IsFileRefused before after file refusal = (source : List ℕ) × IsContents (before.contents file) source × Is (SourceLadder file source) (Stops (cause_of file refusal))
 
--- the warnings are those of the unit, and what is told of it can be printed over the source
+-- the source is read so, and these are the verdicts of its unit
 pub record IsReady (found : Found) : Type 0 where
-  pub warnings : AreWarnings found.unit found.verdicts
+  pub verdicts : AreVerdicts found.read.unit found.verdicts
   pub short : length found.source ≤ SOURCE_LIMIT
-  pub placed : AreCallsWithin found.source found.unit
-  pub printable : ArePrintable found.source found.unit found.verdicts
+  pub read : IsReadAs found.source found.read
 
--- the file reads as this unit
+-- the file has this source
 pub record IsFound (files : FilesState) (file : List ℕ) (found : Found) : Type 0 where
   pub contents : IsContents (files.contents file) found.source
-  pub unit : Is (SourceLadder file found.source) (GoesOn found.unit)
   pub ready : IsReady found
+
+-- what is warned of in a file of which this was found
+abbrev pub warned_of : List ℕ → Found → Warned
+warned_of file found = warned_in file found.source found.read found.verdicts
 
 -- the cause for which a unit isn't compiled
 abbrev pub cause_to_stop : UnitParts → CompileRefusal → Cause

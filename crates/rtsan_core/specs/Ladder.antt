@@ -1,27 +1,30 @@
 -- The ladder of answers: what is asked of a command, one rung after the other, in this order. Each rung says when it stops,
 -- and with which cause, and when it goes on, and with which value.
-use Rattle.std.specs.Prelude.{◌≡◌, ℕ, ◌<◌, ◌≤◌, ◌⊎◌, List, length, Option, Some, None}
+use Rattle.std.specs.Prelude.{◌≡◌, ℕ, ◌<◌, ◌≤◌, ◌⊎◌, List, [], length, Option, Some, None}
 use Rattle.c_text.specs.declared.Token.{Token}
 use Rattle.c_text.specs.Place.{line_column}
 use Rattle.c_text.specs.Spelling.{IsSpelled, IsFirstFault}
 use Rattle.c_tree.specs.declared.statements.Tree.{Tree}
 use Rattle.c_parse.specs.Parsed.{IsParsed, IsRefusedAt}
+use Rattle.type_rules.specs.Units.{Outcome, IsTyped, Breaks, Passes, outcome}
+use Rattle.type_rules.specs.declared.notes.TypeWarning.{TypeWarning}
+use Rattle.type_units.specs.Answers.{AreInOrder}
+use Rattle.unit_check.specs.Verdicts.{Report, AreVerdicts}
 use Rattle.built_unit.specs.Units.{UnitParts}
 use Rattle.built_form.specs.Built.{IsOfForm}
 use Rattle.built_codegen.specs.Unit.{HasNoEntry, IsEntry, IsFirstMissing, unit_nodes, node_limit}
-use Rattle.eff_check.specs.declared.Warning.{Warning}
-use Rattle.eff_check.specs.Violations.{AreWarnings}
 use Rattle.eff_text.specs.WarningText.{function_name}
 use Rattle.rt_base.specs.Outside.{FilesState, IsContents, Rose}
 use Rattle.c_text.specs.declared.limits.TheConstants.{SOURCE_LIMIT}
 use Rattle.rtsan_core.specs.declared.finished.Finished.{Finished}
+use Rattle.rtsan_core.specs.declared.reading.Reading.{Reading}
 use Rattle.command.specs.declared.command.Command.{Command}
 use Rattle.command.specs.declared.command.Job.{Job}
 use Rattle.command.specs.declared.command.Job.TheVariants.{Check, Step, Run, Gen}
 use Rattle.rtsan_core.specs.Served.{served_command, HasDefaults}
-use Rattle.rtsan_core.specs.Causes.{Cause, NoCommand, Unreadable, SourceTooLong, Misspelled, Unread, NotBuilt, Undefined, CodeTooLong}
+use Rattle.rtsan_core.specs.Causes.{NoCommand, Unreadable, SourceTooLong, Misspelled, Unread, Untyped, UnitTooLarge, NotBuilt, Undefined, CodeTooLong}
 use Rattle.rtsan_core.specs.Rungs.{Rung, Stops, GoesOn, Then}
-use Rattle.rtsan_core.specs.Runs.{entry_name, IsFinished}
+use Rattle.rtsan_core.specs.Runs.{entry_name, IsFinished, Warned, Left}
 
 -- the words are a command that is served
 abbrev pub IsCommand : List (List ℕ) → Rung Command → Type 0
@@ -48,7 +51,18 @@ abbrev pub IsGrammar : (file source : List ℕ) → List Token → Rung Tree →
 IsGrammar file source tokens (Stops cause) = (number : ℕ) × (index : ℕ) × (place : ℕ) × IsRefusedAt source tokens number index place × (cause ≡ Unread file (line_column source place) number)
 IsGrammar file source tokens (GoesOn tree) = IsParsed source tokens tree
 
--- it is of the form that is built so far (a rung that goes once the whole language is read)
+-- its typing: a typed unit with its warnings in order of place, the first rule that is broken, or else the first limit that
+-- the unit passes
+abbrev pub IsTypingEnd : (file source : List ℕ) → List Token → Outcome → Rung Reading → Type 0
+IsTypingEnd file source tokens (IsTyped unit noted) end =
+    (warnings : List TypeWarning) × AreInOrder noted warnings × (end ≡ GoesOn (record { tokens = tokens; unit = unit; warnings = warnings }))
+IsTypingEnd file source tokens (Breaks number place) end = end ≡ Stops (Untyped file (line_column source place) number)
+IsTypingEnd file source tokens (Passes limit) end = end ≡ Stops (UnitTooLarge limit)
+
+abbrev pub IsTyping : (file source : List ℕ) → List Token → Tree → Rung Reading → Type 0
+IsTyping file source tokens tree end = IsTypingEnd file source tokens (outcome source [] tree) end
+
+-- it is of the form that is run so far (a rung that goes once the whole language is run)
 abbrev pub IsForm : List ℕ → List Token → Rung UnitParts → Type 0
 IsForm source tokens (Stops cause) = ((unit : UnitParts) → IsOfForm source tokens unit → ⊥) × (cause ≡ NotBuilt)
 IsForm source tokens (GoesOn unit) = IsOfForm source tokens unit
@@ -74,54 +88,64 @@ abbrev pub IsCode : UnitParts → Rung (Unit {0}) → Type 0
 IsCode unit (Stops cause) = (node_limit < unit_nodes unit) × (cause ≡ CodeTooLong)
 IsCode unit (GoesOn short) = unit_nodes unit ≤ node_limit
 
--- what a command prints that no cause stops: the warnings of the unit, and where it was run, what the run left
+-- what a command prints that no cause stops: what is warned of, and where the unit was run, what the run left
 pub record Findings : Type 0 where
-  pub file : List ℕ
-  pub source : List ℕ
-  pub unit : UnitParts
-  pub warnings : List Warning
-  pub left : Option Finished
+  pub warned : Warned
+  pub left : Option Left
 
--- `check` finds the warnings, and never stops here
-pub data IsChecked (file source : List ℕ) (unit : UnitParts) (end : Rung Findings) : Type 0 where
-  Checked : (warnings : List Warning) → AreWarnings unit warnings → end ≡ GoesOn (record { file = file; source = source; unit = unit; warnings = warnings; left = None }) → IsChecked file source unit end
+-- what is warned of in a source that was read
+abbrev pub warned_in : (file source : List ℕ) → Reading → Report → Warned
+warned_in file source read verdicts = record { file = file; source = source; unit = read.unit; noted = read.warnings; verdicts = verdicts }
 
--- `step` finds the warnings and runs the unit from its entry, and never stops here
-pub data IsStepped (file source : List ℕ) (unit : UnitParts) (end : Rung Findings) : Type 0 where
-  Stepped : (warnings : List Warning) → AreWarnings unit warnings → (entry : ℕ) → IsEntry unit entry_name entry → (left : Finished) → IsFinished unit entry left → end ≡ GoesOn (record { file = file; source = source; unit = unit; warnings = warnings; left = Some left }) → IsStepped file source unit end
+-- `check` finds the verdicts of the unit, and never stops here
+pub data IsChecked (file source : List ℕ) (read : Reading) (end : Rung Findings) : Type 0 where
+  Checked : (verdicts : Report) → AreVerdicts read.unit verdicts → end ≡ GoesOn (record { warned = warned_in file source read verdicts; left = None }) → IsChecked file source read end
 
--- from a source to its unit
-abbrev pub SourceLadder : (file source : List ℕ) → Rung UnitParts → Type 0
+-- `step` finds them, and runs the unit of the form that is built from its entry, and never stops here
+pub data IsStepped (file source : List ℕ) (read : Reading) (unit : UnitParts) (end : Rung Findings) : Type 0 where
+  Stepped : (verdicts : Report) → AreVerdicts read.unit verdicts → (entry : ℕ) → IsEntry unit entry_name entry → (finished : Finished) → IsFinished unit entry finished
+      → end ≡ GoesOn (record { warned = warned_in file source read verdicts; left = Some (record { unit = unit; finished = finished }) }) → IsStepped file source read unit end
+
+-- from a source to its typed unit
+abbrev pub SourceLadder : (file source : List ℕ) → Rung Reading → Type 0
 SourceLadder file source =
     Then (IsShort source) (λ short.
     Then (IsSpelling file source) (λ tokens.
     Then (IsGrammar file source tokens) (λ tree.
-    IsForm source tokens)))
+    IsTyping file source tokens tree)))
 
--- from a unit to what its run leaves
-abbrev pub RunLadder : (file source : List ℕ) → UnitParts → Rung Findings → Type 0
-RunLadder file source unit =
+-- from a unit of the form that is built to what its run leaves
+abbrev pub RunLadder : (file source : List ℕ) → Reading → UnitParts → Rung Findings → Type 0
+RunLadder file source read unit =
     Then (IsLinked unit) (λ linked.
     Then (IsCode unit) (λ short.
-    IsStepped file source unit))
+    IsStepped file source read unit))
+
+-- the same, with the options of the command
+abbrev pub PlainLadder : Command → (source : List ℕ) → Reading → UnitParts → Rung Findings → Type 0
+PlainLadder command source read unit = Then (IsPlain command) (λ plain. RunLadder command.file source read unit)
+
+-- from a typed unit to what its run leaves
+abbrev pub StepLadder : Command → (source : List ℕ) → Reading → Rung Findings → Type 0
+StepLadder command source read = Then (IsForm source read.tokens) (λ unit. PlainLadder command source read unit)
 
 -- `run` and `gen` have no end yet: the first rung stops before them
 abbrev pub IsToCome : Rung Findings → Type 0
 IsToCome end = ⊥
 
--- from a unit to what the job of the command finds of it
-abbrev pub JobLadder : Job → Command → (source : List ℕ) → UnitParts → Rung Findings → Type 0
-JobLadder Check command source unit = IsChecked command.file source unit
-JobLadder Step command source unit = Then (IsPlain command) (λ plain. RunLadder command.file source unit)
-JobLadder Run command source unit = IsToCome
-JobLadder (Gen count) command source unit = IsToCome
+-- from a typed unit to what the job of the command finds of it
+abbrev pub JobLadder : Job → Command → (source : List ℕ) → Reading → Rung Findings → Type 0
+JobLadder Check command source read = IsChecked command.file source read
+JobLadder Step command source read = StepLadder command source read
+JobLadder Run command source read = IsToCome
+JobLadder (Gen count) command source read = IsToCome
 
 -- from a command to its findings
 abbrev pub CommandLadder : Command → (before after : FilesState) → Rung Findings → Type 0
 CommandLadder command before after =
     Then (IsSource before after command.file) (λ source.
-    Then (SourceLadder command.file source) (λ unit.
-    JobLadder command.job command source unit))
+    Then (SourceLadder command.file source) (λ read.
+    JobLadder command.job command source read))
 
 -- the whole ladder
 abbrev pub Ladder : List (List ℕ) → (before after : FilesState) → Rung Findings → Type 0

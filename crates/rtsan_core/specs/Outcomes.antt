@@ -1,8 +1,5 @@
 -- The outcome of a command: its status, what it printed, and what it left, by where its ladder ends.
 use Rattle.std.specs.Prelude.{◌≡◌, ℕ, List, Option, Some, None, IsSome}
-use Rattle.built_unit.specs.Units.{UnitParts}
-use Rattle.eff_check.specs.declared.Warning.{Warning}
-use Rattle.eff_text.specs.WarningText.{warnings_text}
 use Rattle.rt_base.specs.Outside.{FilesState, SinkState, Rose, TakesAll, FailsWithin}
 use Rattle.rtsan_core.specs.declared.finished.Finished.{Finished}
 use Rattle.rtsan_core.specs.declared.status.Outcome.{Outcome}
@@ -12,7 +9,7 @@ use Rattle.command.specs.declared.command.Command.{Command}
 use Rattle.rtsan_core.specs.Served.{served_command}
 use Rattle.rtsan_core.specs.Causes.{Cause, OutOfMemory, status_of, line_of}
 use Rattle.rtsan_core.specs.Rungs.{Rung, Stops, GoesOn}
-use Rattle.rtsan_core.specs.Runs.{warned_status, run_status, run_text}
+use Rattle.rtsan_core.specs.Runs.{Warned, Left, warned_status, warned_text, run_status, run_text}
 use Rattle.rtsan_core.specs.Ladder.{Findings}
 
 -- a status, and the whole text that is printed with it
@@ -24,22 +21,24 @@ pub record Answer : Type 0 where
 abbrev pub answer_of : Cause → Answer
 answer_of cause = record { status = status_of cause; text = line_of cause }
 
--- the answer of a unit: its warnings, and where it was run, what the run left
-abbrev pub answer_by : (file source : List ℕ) → UnitParts → List Warning → Option Finished → Answer
-answer_by file source unit warnings None =
-    record { status = warned_status warnings; text = warnings_text file source unit warnings }
-answer_by file source unit warnings (Some left) =
-    record { status = run_status warnings left; text = run_text file source unit warnings left }
+-- the answer of a unit: what is warned of, and where it was run, what the run left
+abbrev pub answer_by : Warned → Option Left → Answer
+answer_by warned None = record { status = warned_status warned; text = warned_text warned }
+answer_by warned (Some left) = record { status = run_status (warned_status warned) left.finished; text = run_text warned left }
 
 -- the answer at the end of a ladder
 abbrev pub answer_at : Rung Findings → Answer
 answer_at (Stops cause) = answer_of cause
-answer_at (GoesOn f) = answer_by f.file f.source f.unit f.warnings f.left
+answer_at (GoesOn f) = answer_by f.warned f.left
+
+abbrev pub finished_in : Option Left → Option Finished
+finished_in None = None
+finished_in (Some left) = Some left.finished
 
 -- what is left at the end of a ladder
 abbrev pub left_at : Rung Findings → Option Finished
 left_at (Stops cause) = None
-left_at (GoesOn f) = f.left
+left_at (GoesOn f) = finished_in f.left
 
 -- the answer was printed whole, or the sink failed within it
 pub data IsPrinted (answer : Answer) (status : Status) (old new : SinkState) : Type 0 where

@@ -2,16 +2,19 @@
 use Rattle.std.specs.Prelude.{◌≡◌, ◌≢◌, ◌↔◌, ℕ, ◌<◌, ◌⊎◌, true, false, List, length, Option, Some, None, IsSomeAnd}
 use Rattle.built_unit.specs.Units.{UnitParts}
 use Rattle.built_codegen.specs.Unit.{unit_nodes, node_limit}
+use Rattle.built_form.specs.Built.{IsOfForm}
 use Rattle.rt_base.specs.Outside.{FilesState, SinkState, IsContents, Rose, TakesAll}
 use Rattle.c_text.specs.declared.limits.TheConstants.{SOURCE_LIMIT}
 use Rattle.rtsan_core.specs.declared.finished.Finished.{Finished}
+use Rattle.rtsan_core.specs.declared.reading.Reading.{Reading}
 use Rattle.rtsan_core.specs.declared.status.Outcome.{Outcome}
 use Rattle.rtsan_core.specs.declared.status.Status.{Status}
-use Rattle.rtsan_core.specs.declared.status.Status.TheVariants.{Clean, Warned, Reported, Refused, Usage, ReadFault, WriteFault, NoMemory, Limit, Unlinked, Trapped, Stopped}
+use Rattle.rtsan_core.specs.declared.status.Status.TheVariants.{Refused, Usage, ReadFault, WriteFault, NoMemory, Limit, Unlinked}
 use Rattle.command.specs.declared.command.Command.{Command}
 use Rattle.command.specs.declared.command.Job.TheVariants.{Step}
 use Rattle.rtsan_core.specs.Served.{served_command, HasDefaults}
-use Rattle.rtsan_core.specs.Causes.{Cause, status_of, line_of}
+use Rattle.core_unit.specs.declared.units.Which.{Which}
+use Rattle.rtsan_core.specs.Causes.{Cause, UnitTooLarge, status_of, line_of}
 use Rattle.rtsan_core.specs.Rungs.{Rung, Stops, GoesOn}
 use Rattle.rtsan_core.specs.Runs.{IsFinished, has_trapped, has_stopped}
 use Rattle.rtsan_core.specs.Ladder.{Findings, SourceLadder, IsUndefined}
@@ -55,12 +58,24 @@ pub record HasNoReading (words : List (List ℕ)) (files : FilesState) : Type 0 
   pub stops : SourceLadder command.file source (Stops cause)
   pub status : status_of cause ≡ Refused
 
--- the words are a command to run a file, which reads as this unit
-pub record StepsUnit (words : List (List ℕ)) (files : FilesState) (command : Command) (unit : UnitParts) : Type 0 where
+-- the words are a command to run a file, which is read so
+pub record StepsSource (words : List (List ℕ)) (files : FilesState) (command : Command) : Type 0 where
   pub steps : command.job ≡ Step
   pub source : List ℕ
   pub has : HasSource words files command source
-  pub reads : SourceLadder command.file source (GoesOn unit)
+  pub read : Reading
+  pub reads : SourceLadder command.file source (GoesOn read)
+
+-- it isn't of the form that is run so far
+pub record HasOtherForm (words : List (List ℕ)) (files : FilesState) : Type 0 where
+  pub command : Command
+  pub steps : StepsSource words files command
+  pub other : (unit : UnitParts) → IsOfForm steps.source steps.read.tokens unit → ⊥
+
+-- it is, as this unit
+pub record StepsUnit (words : List (List ℕ)) (files : FilesState) (command : Command) (unit : UnitParts) : Type 0 where
+  pub steps : StepsSource words files command
+  pub formed : IsOfForm steps.source steps.read.tokens unit
 
 -- it has options that no run carries yet
 pub record HasOptions (words : List (List ℕ)) (files : FilesState) : Type 0 where
@@ -70,7 +85,7 @@ pub record HasOptions (words : List (List ℕ)) (files : FilesState) : Type 0 wh
   pub options : HasDefaults command → ⊥
 
 abbrev pub IsRefused : List (List ℕ) → FilesState → Type 0
-IsRefused words files = HasNoReading words files ⊎ HasOptions words files
+IsRefused words files = HasNoReading words files ⊎ (HasOtherForm words files ⊎ HasOptions words files)
 
 -- it has none, so that the unit is run
 pub record RunsUnit (words : List (List ℕ)) (files : FilesState) (unit : UnitParts) : Type 0 where
@@ -85,6 +100,14 @@ pub record HasLongSource (words : List (List ℕ)) (files : FilesState) : Type 0
   pub has : HasSource words files command source
   pub long : SOURCE_LIMIT < length source
 
+-- the source is typed, and its unit passes a limit
+pub record HasLargeUnit (words : List (List ℕ)) (files : FilesState) : Type 0 where
+  pub command : Command
+  pub source : List ℕ
+  pub has : HasSource words files command source
+  pub limit : Which
+  pub passes : SourceLadder command.file source (Stops (UnitTooLarge limit))
+
 -- the code of the unit is too long
 pub record HasLongCode (words : List (List ℕ)) (files : FilesState) : Type 0 where
   pub unit : UnitParts
@@ -92,7 +115,7 @@ pub record HasLongCode (words : List (List ℕ)) (files : FilesState) : Type 0 w
   pub long : node_limit < unit_nodes unit
 
 abbrev pub IsOverLimit : List (List ℕ) → FilesState → Type 0
-IsOverLimit words files = HasLongSource words files ⊎ HasLongCode words files
+IsOverLimit words files = HasLongSource words files ⊎ (HasLargeUnit words files ⊎ HasLongCode words files)
 
 -- the entry or a called function of the unit has no definition
 pub record IsUnlinked (words : List (List ℕ)) (files : FilesState) : Type 0 where

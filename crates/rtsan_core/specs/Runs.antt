@@ -1,22 +1,37 @@
 -- What a run leaves, and the status and the text that it has.
-use Rattle.std.specs.Prelude.{◌≡◌, ℕ, ◌≤◌, Bool, true, false, nat_lt, List, [], ◌∷◌, ◌++◌, length, None, codes}
+use Rattle.std.specs.Prelude.{◌≡◌, ℕ, Bool, true, false, nat_lt, List, [], ◌∷◌, ◌++◌, length, codes}
 use Rattle.std.specs.List.{flat_map, list_any}
 use Rattle.built_unit.specs.Units.{UnitParts}
-use Rattle.built_codegen.specs.Unit.{IsEntry, IsFirstMissing, unit_nodes, node_limit}
-use Rattle.eff_check.specs.declared.Warning.{Warning}
-use Rattle.eff_text.specs.WarningText.{warnings_text}
+use Rattle.core_unit.specs.declared.tables.UnitParts.{UnitParts as Typed}
+use Rattle.type_rules.specs.declared.notes.TypeWarning.{TypeWarning}
+use Rattle.unit_check.specs.Verdicts.{Report}
+use Rattle.unit_check.specs.declared.verdicts.Warning.{Warning}
+use Rattle.warning_text.specs.WarningText.{warnings_text}
 use Rattle.built_code.specs.Machine.{Program}
 use Rattle.built_reports.specs.RunText.{reports_text, thread_line}
 use Rattle.built_reports.specs.Totals.{counted}
 use Rattle.built_model.specs.declared.runs.End.{End}
-use Rattle.built_model.specs.declared.runs.End.TheVariants.{Returned, Exited, Trapped as EndTrapped, Halted, Stopped as EndStopped, Waiting, Full}
+use Rattle.built_model.specs.declared.runs.End.TheVariants.{Trapped as EndTrapped, Stopped as EndStopped, Waiting, Full}
 use Rattle.built_model.specs.Follows.{Behaves}
 use Rattle.built_model.specs.Context.{report_stacks}
 use Rattle.built_model.specs.Run.{IsRun, machine_after_trace}
 use Rattle.rtsan_core.specs.declared.finished.Ended.{Ended}
 use Rattle.rtsan_core.specs.declared.finished.Finished.{Finished}
 use Rattle.rtsan_core.specs.declared.status.Status.{Status}
-use Rattle.rtsan_core.specs.declared.status.Status.TheVariants.{Clean, Warned, Reported, Trapped, Stopped}
+use Rattle.rtsan_core.specs.declared.status.Status.TheVariants.{Clean, Warned as StatusWarned, Reported, Trapped, Stopped}
+
+-- what is warned of in a source: what its typing noted, in order of place, and the verdicts of the check
+pub record Warned : Type 0 where
+  pub file : List ℕ
+  pub source : List ℕ
+  pub unit : Typed
+  pub noted : List TypeWarning
+  pub verdicts : Report
+
+-- what a run left of a unit of the form that is run so far
+pub record Left : Type 0 where
+  pub unit : UnitParts
+  pub finished : Finished
 
 -- the entry of a run is the function `main` (C17 5.1.2.2.1)
 abbrev pub entry_name : List ℕ
@@ -67,9 +82,14 @@ has_trapped finished = list_any (λ thread. is_trapped thread.end) finished.thre
 abbrev pub has_stopped : Finished → Bool
 has_stopped finished = list_any (λ thread. is_stopped thread.end) finished.threads
 
-abbrev pub warned_status : List Warning → Status
-warned_status [] = Clean
-warned_status (warning ∷ warnings) = Warned
+-- warned where the typing noted something, or the check found a violation
+abbrev pub status_with : List TypeWarning → List Warning → Status
+status_with [] [] = Clean
+status_with [] (warning ∷ warnings) = StatusWarned
+status_with (note ∷ notes) warnings = StatusWarned
+
+abbrev pub warned_status : Warned → Status
+warned_status warned = status_with warned.noted warned.verdicts.warnings
 
 -- the first that applies: reported (or no room for a report), trapped, stopped, and else what the warnings say
 abbrev pub status_by : (reported full trapped stopped : Bool) → Status → Status
@@ -79,17 +99,20 @@ status_by false false true stopped otherwise = Trapped
 status_by false false false true otherwise = Stopped
 status_by false false false false otherwise = otherwise
 
--- the status of a run, by what it left and by the warnings
-abbrev pub run_status : List Warning → Finished → Status
-run_status warnings finished =
-    status_by (nat_lt 0 finished.total) (has_full finished) (has_trapped finished) (has_stopped finished)
-    (warned_status warnings)
+-- the status of a run, by what it left, and else by what is warned of
+abbrev pub run_status : (warned : Status) → Finished → Status
+run_status warned finished =
+    status_by (nat_lt 0 finished.total) (has_full finished) (has_trapped finished) (has_stopped finished) warned
 
 -- how the threads ended, a line for each
 abbrev pub endings_text : List Ended → List ℕ
 endings_text threads = flat_map (λ thread. thread_line thread.number thread.end) threads
 
--- the text of a run, by what it left: the warnings, the reports, and the endings
-unfoldable pub run_text : List ℕ → List ℕ → UnitParts → List Warning → Finished → List ℕ
-run_text file source unit warnings finished =
-    warnings_text file source unit warnings ++ (reports_text source unit finished.stacks ++ endings_text finished.threads)
+-- the text of what is warned of
+abbrev pub warned_text : Warned → List ℕ
+warned_text warned = warnings_text (record { file = warned.file; bytes = warned.source }) warned.unit warned.noted warned.verdicts
+
+-- the text of a run: what is warned of, the reports, and the endings
+unfoldable pub run_text : Warned → Left → List ℕ
+run_text warned left =
+    warned_text warned ++ (reports_text warned.source left.unit left.finished.stacks ++ endings_text left.finished.threads)

@@ -5,7 +5,7 @@ ghost use Rattle.rt_base.specs.Outside.{KeepsContents};
 ghost use Rattle.rtsan_core.specs.Ladder.{CommandLadder};
 ghost use Rattle.rtsan_core.specs.Outcomes.{IsOutcome, IsUndisturbed, HasTheAnswer};
 
-use crate::printing::{print_refusal, print_warnings};
+use crate::printed::{print_refusal, print_warnings};
 use crate::reading::read_file;
 use crate::status::{Outcome, Status, ended};
 use crate::stepping::step_command;

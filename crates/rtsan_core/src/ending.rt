@@ -1,27 +1,29 @@
 //! The status of what a command found.
 
 ghost use Rattle.std.specs.Prelude.{◌≡◌};
-ghost use Rattle.rtsan_core.specs.Runs.{is_full, is_trapped, is_stopped, has_full, has_trapped, has_stopped, status_by, warned_status, run_status};
+ghost use Rattle.rtsan_core.specs.Runs.{is_full, is_trapped, is_stopped, has_full, has_trapped, has_stopped, status_by, status_with, run_status};
 
 use crate::finished::Finished;
+use crate::reading::Found;
 use crate::status::Status;
 use built_model::End;
-use eff_check::Verdicts;
 
-/// The status of a unit with these warnings, where nothing else is said of it.
-pub fn warned_status(verdicts: &Verdicts) -> Status
-    ensures { result ≡ warned_status verdicts.now }
+/// The status of a unit, where nothing else is said of it than what is warned of.
+pub fn warned_status(found: &Found) -> Status
+    ensures { result ≡ status_with found.now.read.warnings found.now.verdicts.warnings }
 {
-    if verdicts.warnings().is_empty() {
-        Status::Clean
-    } else {
+    if !found.read.warnings.as_slice().is_empty() {
         Status::Warned
+    } else if !found.verdicts.warnings().is_empty() {
+        Status::Warned
+    } else {
+        Status::Clean
     }
 }
 
-/// The status of a run, by what it left and by the warnings.
-pub fn run_status(verdicts: &Verdicts, finished: &Finished) -> Status
-    ensures { result ≡ run_status verdicts.now finished.now }
+/// The status of a run, by what it left, and else by what is warned of.
+pub fn run_status(warned: Status, finished: &Finished) -> Status
+    ensures { result ≡ run_status warned finished.now }
 {
     let reported = finished.total > 0;
     status_by(
@@ -29,7 +31,7 @@ pub fn run_status(verdicts: &Verdicts, finished: &Finished) -> Status
         has_full(finished),
         has_trapped(finished),
         has_stopped(finished),
-        warned_status(verdicts),
+        warned,
     )
 }
 

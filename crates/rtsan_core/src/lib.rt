@@ -4,7 +4,7 @@
 mod commands;
 mod ending;
 mod finished;
-mod printing;
+mod printed;
 mod reading;
 mod served;
 mod serving;

@@ -1,19 +1,21 @@
-//! From the name of a file to its unit and its warnings.
+//! From the name of a file to its typed unit and its verdicts.
 
-ghost use Rattle.std.specs.Prelude.{◌≤◌, length, IfOk, IfErr};
+ghost use Rattle.std.specs.Prelude.{◌≡◌, ◌≤◌, length, IfOk, IfErr};
 ghost use Rattle.rt_base.specs.Outside.{IsContents, KeepsContents};
-ghost use Rattle.built_form.specs.Built.{AreCallsWithin};
-ghost use Rattle.rtsan_core.specs.Found.{AreTheTokens, IsTheTree, IsTheUnit, IsRefusedFor, IsFileRefused, IsFound};
+ghost use Rattle.rtsan_core.specs.Found.{AreTheTokens, IsTheTree, IsReadAs, IsRefusedFor, IsFileRefused, IsFound};
 ghost use Rattle.c_text.specs.declared.limits.TheConstants.{SOURCE_LIMIT};
 
-use built_form::{FormRefusal, read_form};
-use built_unit::Unit;
 use c_parse::{ParseRefusal, parse};
 use c_text::{SOURCE_LIMIT, TextRefusal, Token, TokenList, line_column, tokens};
 use c_tree::Tree;
-use eff_check::{Verdicts, check};
+use core_unit::{Unit, Which};
+use printing::LineTable;
 use rt_base::{Bytes, Files, ReadRefusal, read_all};
+use sqlite_items::Items;
 use std::alloc::{AllocError, Global};
+use type_rules::TypeWarning;
+use type_units::{TypeRefusal, type_unit};
+use unit_check::{Verdicts, check};
 
 /// Why a file has no unit.
 pub enum Refusal {
@@ -25,33 +27,45 @@ pub enum Refusal {
     Misspelled { number: u8, line: u32, column: u32 },
     /// the first refused token: its number and its place
     Unread { number: u8, line: u32, column: u32 },
-    NotBuilt,
+    /// the first rule of typing that is broken: its number and its place
+    Untyped { number: u8, line: u32, column: u32 },
+    /// a limit that the unit passes
+    TooLarge(Which),
     NoMemory,
 }
 
-/// A source with its unit and its warnings.
+/// What is read of a source.
+#[derive(Drop)]
+pub struct Reading {
+    pub tokens: TokenList,
+    pub unit: Unit,
+    /// what the typing of the unit warns of, in order of place
+    pub warnings: Items<TypeWarning>,
+}
+
+/// A source, what is read of it, and the verdicts of its unit.
 #[derive(Drop)]
 pub struct Found {
     pub source: Bytes,
-    pub unit: Unit,
+    pub read: Reading,
     pub verdicts: Verdicts,
 }
 
-/// The unit of a file, and its warnings, or why it has none.
+/// The unit of a file and its verdicts, or why it has none.
 pub fn read_file<F: Files>(alloc: Global, files: &mut F, file: &str) -> Result<Found, Refusal>
     ensures found { IfOk result (IsFound (F.state files.old) file.now) }
     ensures refused { IfErr result (IsFileRefused (F.state files.old) (F.state files.new) file.now) }
     ensures kept { KeepsContents (F.state files.old) (F.state files.new) }
 {
     let source = read_source(alloc, files, file)?;
-    let unit = match read_unit(alloc, source.as_slice()) {
-        Ok(unit) => unit,
+    let read = match read_text(alloc, source.as_slice()) {
+        Ok(read) => read,
         Err(refusal) => return Err(refusal),
     };
-    match check(alloc, &unit) {
+    match check(alloc, &read.unit) {
         Ok(verdicts) => Ok(Found {
             source,
-            unit,
+            read,
             verdicts,
         }),
         Err(AllocError) => Err(Refusal::NoMemory),
@@ -73,17 +87,15 @@ fn read_source<F: Files>(alloc: Global, files: &mut F, file: &str) -> Result<Byt
     }
 }
 
-/// The unit of a source.
-fn read_unit(alloc: Global, source: &[u8]) -> Result<Unit, Refusal>
+/// What is read of a source.
+fn read_text(alloc: Global, source: &[u8]) -> Result<Reading, Refusal>
     requires { length source.now ≤ SOURCE_LIMIT }
-    ensures read { IfOk result (IsTheUnit source.now) }
-    ensures placed { IfOk result (AreCallsWithin source.now) }
+    ensures read { IfOk result (IsReadAs source.now) }
     ensures refused { IfErr result (IsRefusedFor source.now) }
 {
-    let list = read_tokens(alloc, source)?;
-    let tokens = list.as_slice();
-    let tree = read_tree(alloc, source, tokens)?;
-    read_built(alloc, source, tokens, &tree)
+    let tokens = read_tokens(alloc, source)?;
+    let tree = read_tree(alloc, source, tokens.as_slice())?;
+    read_types(alloc, source, tokens, &tree)
 }
 
 /// The tokens of a source.
@@ -133,18 +145,34 @@ fn read_tree(alloc: Global, source: &[u8], tokens: &[Token]) -> Result<Tree, Ref
     }
 }
 
-/// The unit of its tokens, where they are of the form that is built.
-fn read_built(alloc: Global, source: &[u8], tokens: &[Token], tree: &Tree) -> Result<Unit, Refusal>
+/// Types the tree.
+fn read_types(
+    alloc: Global,
+    source: &[u8],
+    tokens: TokenList,
+    tree: &Tree,
+) -> Result<Reading, Refusal>
     requires short { length source.now ≤ SOURCE_LIMIT }
-    requires tokens { AreTheTokens source.now tokens.now }
-    requires tree { IsTheTree source.now tokens.now tree.now }
-    ensures read { IfOk result (IsTheUnit source.now) }
-    ensures placed { IfOk result (AreCallsWithin source.now) }
+    requires tokens { AreTheTokens source.now tokens }
+    requires tree { IsTheTree source.now tokens tree.now }
+    ensures read { IfOk result (IsReadAs source.now) }
     ensures refused { IfErr result (IsRefusedFor source.now) }
 {
-    match read_form(alloc, source, tokens) {
-        Ok(unit) => Ok(unit),
-        Err(FormRefusal::NotBuilt) => Err(Refusal::NotBuilt),
-        Err(FormRefusal::NoMemory) => Err(Refusal::NoMemory),
+    match type_unit(alloc, source, tree) {
+        Ok(typed) => Ok(Reading {
+            tokens,
+            unit: typed.unit,
+            warnings: typed.warnings,
+        }),
+        Err(TypeRefusal::Bad { number, place }) => {
+            let at = LineTable::new(source).line_column(place);
+            Err(Refusal::Untyped {
+                number,
+                line: at.line,
+                column: at.column,
+            })
+        }
+        Err(TypeRefusal::Limit(limit)) => Err(Refusal::TooLarge(limit)),
+        Err(TypeRefusal::NoMemory) => Err(Refusal::NoMemory),
     }
 }

@@ -10,7 +10,7 @@ ghost use Rattle.rtsan_core.specs.Outcomes.{IsOutcome, IsUndisturbed, IsCalm, Ha
 ghost use Rattle.rtsan_core.specs.Rows.{HasLine, IsStopped, FileFailed, IsRefused, IsOverLimit, IsUnlinked, IsRunOf, Exactly, LeftReports, LeftTrapped, LeftStopped};
 
 use crate::commands::{check_unit, step_unit};
-use crate::printing::{print_no_memory, print_usage};
+use crate::printed::{print_no_memory, print_usage};
 use crate::served::read_served;
 use crate::status::{Outcome, Status, ended};
 use command::{Command, Job, WordsFault};

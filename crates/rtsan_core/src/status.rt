@@ -14,7 +14,7 @@ pub enum Status {
     Warned,
     /// a thread of the run reported a blocking call
     Reported,
-    /// the spelling of the source has a fault, or the source isn't of the form that is built
+    /// the source is refused: its spelling, its grammar or its types; or it isn't of the form that is built
     Refused,
     /// the words are no command
     Usage,
@@ -24,7 +24,7 @@ pub enum Status {
     WriteFault,
     /// memory did not suffice
     NoMemory,
-    /// the source has more than 1,048,576 bytes, or its definitions more than 262,144 nodes
+    /// the source has more than 1,048,576 bytes, its unit passes a limit, or its definitions have more than 262,144 nodes
     Limit,
     /// `main` or a called function has no definition
     Unlinked,

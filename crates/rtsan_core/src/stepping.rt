@@ -4,21 +4,24 @@ ghost use Rattle.std.specs.Prelude.{◌≡◌, [], ◌∷◌, length, IfOk};
 ghost use Rattle.std.specs.Option.{option_to_list};
 ghost use Rattle.built_model.specs.Follows.{Behaves};
 ghost use Rattle.built_reports.specs.Totals.{counted};
-ghost use Rattle.rtsan_core.specs.Ladder.{JobLadder, RunLadder};
+ghost use Rattle.built_form.specs.Built.{IsOfForm, AreCallsWithin};
+ghost use Rattle.built_unit.specs.Units.{UnitParts};
+ghost use Rattle.rtsan_core.specs.Ladder.{StepLadder, PlainLadder, RunLadder};
 ghost use Rattle.rtsan_core.specs.Runs.{IsFinished};
 ghost use Rattle.rtsan_core.specs.Found.{HasOneRun, IsReady, IsOnlyOutcome, ended_of};
 
 use crate::finished::{Ended, EndedList, Finished};
-use crate::printing::{ENTRY, print_no_memory, print_refusal, print_run, print_uncompiled};
-use crate::reading::{Found, Refusal};
+use crate::printed::{ENTRY, print_no_memory, print_not_built, print_run, print_uncompiled};
+use crate::reading::Found;
 use crate::served::has_defaults;
 use crate::status::{Outcome, ended};
 use built_code::Code;
 use built_codegen::compile;
+use built_form::{FormRefusal, read_form};
 use built_reports::collect_one;
 use built_run::{Ran, run_thread};
 use built_unit::Unit;
-use command::{Command, Job};
+use command::Command;
 use rt_base::Sink;
 use std::alloc::{AllocError, Global};
 
@@ -27,7 +30,7 @@ pub fn law_one_run(unit: &Unit)
     ensures { HasOneRun unit.now }
 {}
 
-/// Does a `step` of the unit that was found, where its options are the defaults.
+/// Does a `step` of the file that was found, where its unit is of the form that is run so far.
 pub fn step_command<S: Sink>(
     alloc: Global,
     out: &mut S,
@@ -35,29 +38,54 @@ pub fn step_command<S: Sink>(
     found: &Found,
 ) -> Outcome
     requires { IsReady found.now }
-    ensures { IsOnlyOutcome (JobLadder Job.Step command.now found.now.source found.now.unit) result (S.state out.old) (S.state out.new) }
+    ensures { IsOnlyOutcome (StepLadder command.now found.now.source found.now.read) result (S.state out.old) (S.state out.new) }
 {
-    let file = command.file.as_str();
-    if has_defaults(command) {
-        step_found(alloc, out, file, found)
-    } else {
-        ended(print_refusal(out, file, Refusal::NotBuilt))
+    match read_form(alloc, found.source.as_slice(), found.read.tokens.as_slice()) {
+        Ok(unit) => step_formed(alloc, out, command, found, &unit),
+        Err(FormRefusal::NotBuilt) => ended(print_not_built(out)),
+        Err(FormRefusal::NoMemory) => ended(print_no_memory(out)),
     }
 }
 
-/// Runs the unit that was found, and prints its warnings, its reports and its ending, or why it can't be run.
-fn step_found<S: Sink>(alloc: Global, out: &mut S, file: &str, found: &Found) -> Outcome
-    requires { IsReady found.now }
-    ensures { IsOnlyOutcome (RunLadder file.now found.now.source found.now.unit) result (S.state out.old) (S.state out.new) }
+/// Does it where the options are the defaults.
+fn step_formed<S: Sink>(
+    alloc: Global,
+    out: &mut S,
+    command: &Command,
+    found: &Found,
+    unit: &Unit,
+) -> Outcome
+    requires ready { IsReady found.now }
+    requires placed { AreCallsWithin found.now.source unit.now }
+    ensures { IsOnlyOutcome (PlainLadder command.now found.now.source found.now.read unit.now) result (S.state out.old) (S.state out.new) }
 {
-    let code = match compile(alloc, &found.unit, ENTRY) {
+    if has_defaults(command) {
+        step_plain(alloc, out, command.file.as_str(), found, unit)
+    } else {
+        ended(print_not_built(out))
+    }
+}
+
+/// Runs the unit, and prints what is warned of, its reports and its ending, or why it can't be run.
+fn step_plain<S: Sink>(
+    alloc: Global,
+    out: &mut S,
+    file: &str,
+    found: &Found,
+    unit: &Unit,
+) -> Outcome
+    requires ready { IsReady found.now }
+    requires placed { AreCallsWithin found.now.source unit.now }
+    ensures { IsOnlyOutcome (RunLadder file.now found.now.source found.now.read unit.now) result (S.state out.old) (S.state out.new) }
+{
+    let code = match compile(alloc, unit, ENTRY) {
         Ok(code) => code,
-        Err(refusal) => return ended(print_uncompiled(out, &found.unit, refusal)),
+        Err(refusal) => return ended(print_uncompiled(out, unit, refusal)),
     };
-    law_one_run(&found.unit);
-    match run_code(alloc, &found.unit, code) {
+    law_one_run(unit);
+    match run_code(alloc, unit, code) {
         Ok(finished) => {
-            let status = print_run(out, file, found, &finished);
+            let status = print_run(out, file, found, unit, &finished);
             Outcome {
                 status,
                 finished: Some(finished),

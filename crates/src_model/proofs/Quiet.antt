@@ -18,7 +18,6 @@ use Rattle.core_unit.specs.declared.expressions.Place as place
 use Rattle.core_unit.specs.declared.expressions.Place.{Place}
 use Rattle.core_unit.specs.declared.expressions.Storage.{Storage}
 use Rattle.core_unit.specs.declared.expressions.Storage.TheVariants.{Automatic, Static, ThreadLocal}
-use Rattle.core_unit.specs.declared.operators.Cause.TheVariants as cause
 use Rattle.core_unit.specs.declared.operators.LogicalOperator.{LogicalOperator}
 use Rattle.core_unit.specs.declared.operators.LogicalOperator.TheVariants as logical
 use Rattle.core_unit.specs.declared.tables.FunctionInfo.{FunctionInfo}
@@ -86,9 +85,7 @@ value_lowers (expr.Logical' operator _ (more_of-Expr a end_of-Expr) _ (more_of-E
 value_lowers (expr.Conditional' _ (more_of-Expr c end_of-Expr) _ (more_of-Expr a end_of-Expr) _ (more_of-Expr b end_of-Expr)) k s = omega arith
 value_lowers (expr.Comma' _ (more_of-Expr a end_of-Expr) _ (more_of-Expr b end_of-Expr)) k s = omega arith
 value_lowers (expr.Call' at site _ (more_of-Expr c end_of-Expr) _ es) k s = call_weight (callee c) c site es k
-value_lowers (expr.Convert' cause.Null t _ (more_of-Expr e end_of-Expr)) k s = omega arith
-value_lowers (expr.Convert' cause.Implicit t _ (more_of-Expr e end_of-Expr)) k s = omega arith
-value_lowers (expr.Convert' cause.Cast t _ (more_of-Expr e end_of-Expr)) k s = omega arith
+value_lowers (expr.Convert' why t _ (more_of-Expr e end_of-Expr)) k s = omega arith
 value_lowers (expr.Discard' _ (more_of-Expr e end_of-Expr)) k s = omega arith
 
 address_lowers : (u : UnitParts) (p : Place) (k : List Task) (s : State) → Lowers (8 * place_measure p + weight k) (address_step u p k s)

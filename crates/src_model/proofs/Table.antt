@@ -21,7 +21,6 @@ use Rattle.core_unit.specs.declared.expressions.Place as place
 use Rattle.core_unit.specs.declared.expressions.Place.{Place}
 use Rattle.core_unit.specs.declared.expressions.Storage.{Storage}
 use Rattle.core_unit.specs.declared.expressions.Storage.TheVariants.{Automatic, Static, ThreadLocal}
-use Rattle.core_unit.specs.declared.operators.Cause.TheVariants as cause
 use Rattle.core_unit.specs.declared.operators.LogicalOperator.{LogicalOperator}
 use Rattle.core_unit.specs.declared.operators.LogicalOperator.TheVariants as logical
 use Rattle.core_unit.specs.declared.tables.FunctionInfo.{FunctionInfo}
@@ -392,9 +391,7 @@ value_low (expr.Logical' operator _ (more_of-Expr a end_of-Expr) _ (more_of-Expr
 value_low (expr.Conditional' _ (more_of-Expr c end_of-Expr) _ (more_of-Expr a end_of-Expr) _ (more_of-Expr b end_of-Expr)) k s h low = (low.0, (tt, (tt, h)), low.2)
 value_low (expr.Comma' _ (more_of-Expr a end_of-Expr) _ (more_of-Expr b end_of-Expr)) k s h low = (low.0, (tt, (tt, h)), low.2)
 value_low (expr.Call' at site _ (more_of-Expr c end_of-Expr) _ es) k s h low = (low.0, call_low (callee c) c site es k h, low.2)
-value_low (expr.Convert' cause.Null t _ (more_of-Expr e end_of-Expr)) k s h low = (low.0, h, low.2)
-value_low (expr.Convert' cause.Implicit t _ (more_of-Expr e end_of-Expr)) k s h low = (low.0, (tt, (tt, h)), low.2)
-value_low (expr.Convert' cause.Cast t _ (more_of-Expr e end_of-Expr)) k s h low = (low.0, (tt, (tt, h)), low.2)
+value_low (expr.Convert' why t _ (more_of-Expr e end_of-Expr)) k s h low = (low.0, (tt, (tt, h)), low.2)
 value_low (expr.Discard' _ (more_of-Expr e end_of-Expr)) k s h low = (low.0, (tt, (tt, h)), low.2)
 
 address_low : (u : UnitParts) (p : Place) (k : List Task) (s : State) → AreLow k → IsLow s → StaysLow (address_step u p k s)

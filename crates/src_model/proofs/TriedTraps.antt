@@ -152,16 +152,22 @@ held_values : next (unit [] []) (holder 1023) ∷ next (unit [] []) (holder 1024
 unfolding computing
 held_values = refl
 
--- Where as many are held as can be, 1 - 1 has a value as a null pointer constant, which isn't evaluated, and is trapped as a number.
-abbrev finder : Expr → State
-finder e = record (start 0 0 []) { held = replicate 1024 Zero; todo = Now (Value e) ∷ Now (In EndText Int) ∷ [] }
+-- int main(void) { int *p = 1 - 1; return *p; }
+abbrev null_constant : Expr
+null_constant = expr.Convert cause.Null (pointer_to Int) (arithmetic Subtract (int 1) (int 1))
 
-abbrev nothing : Expr
-nothing = arithmetic Subtract (int 1) (int 1)
-
-null_constant : next (unit [] []) (finder (expr.Convert cause.Null (pointer_to Int) nothing)) ∷ next (unit [] []) (finder nothing) ∷ [] ≡ Out 10 ∷ Trap StackOverflow ∷ []
+null_difference : events 20 (main_of 1 (variable_is 0 (pointer_to Int) null_constant ∷ returns (expr.Load (place.Indirection (value 0 (pointer_to Int)) Int)) ∷ [])) 0
+    ≡ Load (2 ^ 20) ∷ Enter 0 0 ∷ Store 1025 0 ∷ Load 1025 ∷ Trap NullAccess ∷ Store (2 ^ 20) 1 ∷ Over (Trapped NullAccess) ∷ []
 unfolding computing
-null_constant = refl
+null_difference = refl
+
+-- It is evaluated as every expression is: its left operand is held, where so many are already.
+abbrev finder : ℕ → State
+finder count = record (start 0 0 []) { held = replicate count Zero; todo = Now (Value null_constant) ∷ Now (In EndText Int) ∷ [] }
+
+held_operand : next (unit [] []) (finder 1023) ∷ next (unit [] []) (finder 1024) ∷ [] ≡ Out 10 ∷ Trap StackOverflow ∷ []
+unfolding computing
+held_operand = refl
 
 -- static int x; .. free(&x); reads address 0.
 bad_free : events 20 (unit (definition "main" (takes Int []) 0 (

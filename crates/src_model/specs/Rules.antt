@@ -21,7 +21,6 @@ use Rattle.core_unit.specs.declared.expressions.Storage.{Storage}
 use Rattle.core_unit.specs.declared.expressions.Storage.TheVariants.{Automatic, Static, ThreadLocal}
 use Rattle.core_unit.specs.declared.operators.BinaryOperator.{BinaryOperator}
 use Rattle.core_unit.specs.declared.operators.BinaryOperator.TheVariants as binary
-use Rattle.core_unit.specs.declared.operators.Cause.TheVariants as cause
 use Rattle.core_unit.specs.declared.operators.Sign.TheVariants.{Signed}
 use Rattle.core_unit.specs.declared.operators.Update.{Update}
 use Rattle.core_unit.specs.declared.tables.UnitParts.{UnitParts}
@@ -104,8 +103,7 @@ value_step (expr.Conditional' _ (more_of-Expr c end_of-Expr) _ (more_of-Expr a e
     goes s (before (Value c ∷ Pick a b ∷ []) k)
 value_step (expr.Comma' _ (more_of-Expr a end_of-Expr) _ (more_of-Expr b end_of-Expr)) k s = goes s (before (Value a ∷ Value b ∷ []) k)
 value_step (expr.Call' at site _ (more_of-Expr c end_of-Expr) _ es) k s = goes s (call_tasks (callee c) c site es k)
--- conversions keep the bits of numbers and the words of pointers (C17 6.3); what becomes a null pointer isn't evaluated
-value_step (expr.Convert' cause.Null t _ e) k s = gives s word.Zero k
+-- conversions keep the bits of numbers and the words of pointers (C17 6.3); the number 0 of a null pointer constant is the word of a null pointer
 value_step (expr.Convert' why t _ (more_of-Expr e end_of-Expr)) k s = goes s (before (Value e ∷ Retype (type_of e) t ∷ []) k)
 value_step (expr.Discard' _ (more_of-Expr e end_of-Expr)) k s = goes s (before (Value e ∷ Retype (type_of e) Void ∷ []) k)
 

@@ -11,6 +11,7 @@ use Rattle.core_unit.specs.declared.tables.FunctionInfo.{FunctionInfo}
 use Rattle.core_unit.specs.declared.tables.Object.{Object}
 use Rattle.core_unit.specs.declared.tables.UnitParts.{UnitParts}
 use Rattle.core_unit.specs.declared.units.Which.{Which}
+use Rattle.type_rules.specs.Laws.{TypedUnitsAreUnits}
 use Rattle.type_rules.specs.Reading.{Read, Good, Bad, and_then}
 use Rattle.type_rules.specs.Seen.{Seen}
 use Rattle.type_rules.specs.Units.{with_whole, parts_of, exceeded, read_unit, effects_of_all, typed, outcome, outcome_of, IsTyped}
@@ -200,8 +201,7 @@ module _ (source marks : List ℕ) (tree : Tree) (u : UnitParts) (warnings : Lis
       (all_fit s.functions (each_as (IsDeclared s.structures) (λ f. conflict (f.kind.effects ∷ []) ≡ false) s.functions (λ f h. h.fits) read.lawful.functions_formed)) is
 
 -- A typed unit is a unit, where its calls are numbered in order of place and are few.
-pub typed_units_are_units : (source marks : List ℕ) (tree : Tree) (u : UnitParts) (warnings : List TypeWarning) → All (λ byte. byte < 256) source
-    → outcome source marks tree ≡ IsTyped u warnings → AreNumbered 1 (calls_of u) u.sites → length u.sites < 2 ^ 20 → length u.structures < 2 ^ 32 → IsUnit u
+pub typed_units_are_units : TypedUnitsAreUnits
 unfolding outcome typed
 typed_units_are_units source marks tree u warnings bytes is numbered few_sites few_structures =
     of_first source marks tree u warnings (each_of_all (λ byte. byte < 256) source bytes) numbered few_sites few_structures (read_unit source marks [] tree) refl is

@@ -211,7 +211,7 @@ level_rises level.NonBlocking level.Plain = omega arith
 level_rises level.NonBlocking level.NonAllocating = omega arith
 level_rises level.NonBlocking level.NonBlocking = omega arith
 
-union_rises : (a b : Effects) → IsAtMost a.level (union (a ∷ b ∷ [])).level
+pub union_rises : (a b : Effects) → IsAtMost a.level (union (a ∷ b ∷ [])).level
 unfolding union
 union_rises a b = level_rises a.level b.level
 

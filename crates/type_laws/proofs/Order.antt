@@ -182,6 +182,33 @@ occurs_itself k n at c same = ap (λ (test : Bool). if test then 1 else 0) (eq-e
 occurs_other : (k n : ℕ) (at : ℕ) (c : Callee) → (k ≡ n → ⊥) → occurs k (Calls at n c) ≡ 0
 occurs_other k n at c other = ap (λ (test : Bool). if test then 1 else 0) (ne_eqb k n other)
 
+pub within_empty : (k n : ℕ) → within k n n ≡ 0
+within_empty k n = of (nat_lt k n) refl
+  where
+    of : (test : Bool) → nat_lt k n ≡ test → within k n n ≡ 0
+    of true e = within_below k n n (ltb-true k n e)
+    of false e = within_above k n n (ltb-false k n e)
+
+pub occurs_call : (k at n : ℕ) (c : Callee) → occurrences k (Calls at n c ∷ []) ≡ within k n (n + 1)
+occurs_call k at n c = of (nat_eq k n) refl (nat_lt k n) refl
+  where
+    of : (same : Bool) → nat_eq k n ≡ same → (less : Bool) → nat_lt k n ≡ less → occurrences k (Calls at n c ∷ []) ≡ within k n (n + 1)
+    of true e less f =
+        let same = eqb-true k n e in
+        let one = occurs_itself k n at c same in
+        let inside = within_inside k n (n + 1) (omega (arith, same)) (omega (arith, same)) in omega (arith, one, inside)
+    of false e true f =
+        let other = occurs_other k n at c (eqb-false k n e) in
+        let below = within_below k n (n + 1) (ltb-true k n f) in omega (arith, other, below)
+    of false e false f =
+        let differs = eqb-false k n e in
+        let other = occurs_other k n at c differs in
+        let above = within_above k n (n + 1) (beyond (nat_lt n k) refl (ltb-false k n f) differs) in omega (arith, other, above)
+      where
+        beyond : (test : Bool) → nat_lt n k ≡ test → n ≤ k → (k ≡ n → ⊥) → n + 1 ≤ k
+        beyond true e above differs = let more = ltb-true n k e in omega (arith, more)
+        beyond false e above differs = let least = ltb-false n k e in absurd (differs (omega (arith, least, above)))
+
 -- behind a call of a number no lower one occurs
 none_below : (k at n : ℕ) (c : Callee) (ss : List Spot) → k ≤ n → Each (IsBefore (Calls at n c)) ss → occurrences k ss ≡ 0
 none_below k at n c [] below each = refl

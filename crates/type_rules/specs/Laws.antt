@@ -1,4 +1,4 @@
--- Laws of the typing, as statements: none of them is proved yet. They are proved with the code that types, or after it.
+-- Laws of the typing, as statements. Proved is the first, in type_laws.
 use Rattle.std.specs.Prelude.{◌≡◌, ℕ, ◌+◌, ◌<◌, ◌≤◌, ◌^◌, true, false, List, [], length, slice_get, is_some, Option, Some, None, All}
 use Rattle.eff_types.specs.Effects.{rank}
 use Rattle.eff_types.specs.declared.levels.Effects.{Effects}
@@ -14,10 +14,11 @@ use Rattle.type_rules.specs.Units.{read_unit, typed, IsTyped, outcome}
 use Rattle.type_rules.specs.declared.notes.TypeWarning.{TypeWarning}
 use Rattle.type_rules.specs.declared.notes.TypeWarning.TheVariants as warning
 
--- A typed unit is a unit, where its calls are numbered in order of place, as they are where the nodes of the tree stand in order.
+-- A typed unit is a unit, where its calls are numbered in order of place, as they are where the nodes of the tree stand in order, and are few.
 abbrev pub TypedUnitsAreUnits : Type 0
 TypedUnitsAreUnits = (source marks : List ℕ) (tree : Tree) (u : UnitParts) (warnings : List TypeWarning) →
-    All (λ byte. byte < 256) source → outcome source marks tree ≡ IsTyped u warnings → AreNumbered 1 (calls_of u) u.sites → length u.structures < 2 ^ 32 → IsUnit u
+    All (λ byte. byte < 256) source → outcome source marks tree ≡ IsTyped u warnings → AreNumbered 1 (calls_of u) u.sites → length u.sites < 2 ^ 20 → length u.structures < 2 ^ 32
+    → IsUnit u
 
 -- no conversion is warned of
 abbrev pub IsNoConversion : TypeWarning → Type 0

@@ -160,10 +160,10 @@ fn place_type(alloc: Global, place: &Place) -> Result<Boxed<CType>, AllocError>
     }
 }
 
-// The type of an expression.
+/// The type of an expression, by its form alone (C17 6.5). Err where memory lacks.
 #[cycle(typing)]
 #[tactic(auto, using(core_unit::proofs::Equations::type_rules))]
-fn type_of(alloc: Global, expression: &Expr) -> Result<Boxed<CType>, AllocError>
+pub fn type_of(alloc: Global, expression: &Expr) -> Result<Boxed<CType>, AllocError>
     ensures { IfOk result (λ t. t ≡ typing.type_of expression.now) }
 {
     match expression {

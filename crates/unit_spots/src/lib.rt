@@ -6,4 +6,5 @@ mod callees;
 mod spots;
 mod walk;
 
+pub use callees::type_of;
 pub use spots::{Action, Spot, SpotList, all_spots, body_spots, function_spots};

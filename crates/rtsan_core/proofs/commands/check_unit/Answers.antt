@@ -7,14 +7,14 @@ returns-in-Ok-clause-outcome g c =
     let found = rw c.as_str-file.ensures at c.in-Ok.ensures.found in
     let printed = rw c.as_str-file.ensures at c.print_warnings.ensures in
     commanded c.args.command.now (g.F.Files.state c.args.files.now) (g.F.Files.state c.read_file.new.files) c.in-Ok.found.source _ _ _ found.contents
-    (check_told c.args.command.now.job c.args.command.now c.in-Ok.found.source c.in-Ok.found.unit c.in-Ok.found.verdicts _ _ _ _ c.requires found.unit found.ready.warnings printed c.ended.ensures.status c.ended.ensures.finished)
+    (check_told c.args.command.now.job c.args.command.now c.in-Ok.found.source c.in-Ok.found.read c.in-Ok.found.verdicts _ _ _ _ c.requires (found.ready.read.reads c.args.command.now.file) found.ready.verdicts printed c.ended.ensures.status c.ended.ensures.finished)
 
 pub returns-in-Ok-clause-determined : goal.returns-in-Ok-clause-determined
 returns-in-Ok-clause-determined g c =
     let found = rw c.as_str-file.ensures at c.in-Ok.ensures.found in
     let printed = rw c.as_str-file.ensures at c.print_warnings.ensures in
     determined c.args.command.now (g.F.Files.state c.args.files.now) (g.F.Files.state c.read_file.new.files) c.in-Ok.found.source _ _ _ found.contents
-    (check_told c.args.command.now.job c.args.command.now c.in-Ok.found.source c.in-Ok.found.unit c.in-Ok.found.verdicts _ _ _ _ c.requires found.unit found.ready.warnings printed c.ended.ensures.status c.ended.ensures.finished)
+    (check_told c.args.command.now.job c.args.command.now c.in-Ok.found.source c.in-Ok.found.read c.in-Ok.found.verdicts _ _ _ _ c.requires (found.ready.read.reads c.args.command.now.file) found.ready.verdicts printed c.ended.ensures.status c.ended.ensures.finished)
 
 pub returns-in-Err-clause-outcome : goal.returns-in-Err-clause-outcome
 returns-in-Err-clause-outcome g c =

@@ -6,13 +6,13 @@ pub returns-in-Ok-clause-outcome : goal.returns-in-Ok-clause-outcome
 returns-in-Ok-clause-outcome g c =
     let found = rw c.as_str-file.ensures at c.in-Ok.ensures.found in
     commanded c.args.command.now (g.F.Files.state c.args.files.now) (g.F.Files.state c.read_file.new.files) c.in-Ok.found.source _ _ _ found.contents
-    (step_told c.args.command.now.job c.args.command.now c.in-Ok.found.source c.in-Ok.found.unit _ _ _ c.requires found.unit c.step_command.ensures)
+    (step_told c.args.command.now.job c.args.command.now c.in-Ok.found.source c.in-Ok.found.read _ _ _ c.requires (found.ready.read.reads c.args.command.now.file) c.step_command.ensures)
 
 pub returns-in-Ok-clause-determined : goal.returns-in-Ok-clause-determined
 returns-in-Ok-clause-determined g c =
     let found = rw c.as_str-file.ensures at c.in-Ok.ensures.found in
     determined c.args.command.now (g.F.Files.state c.args.files.now) (g.F.Files.state c.read_file.new.files) c.in-Ok.found.source _ _ _ found.contents
-    (step_told c.args.command.now.job c.args.command.now c.in-Ok.found.source c.in-Ok.found.unit _ _ _ c.requires found.unit c.step_command.ensures)
+    (step_told c.args.command.now.job c.args.command.now c.in-Ok.found.source c.in-Ok.found.read _ _ _ c.requires (found.ready.read.reads c.args.command.now.file) c.step_command.ensures)
 
 pub returns-in-Err-clause-outcome : goal.returns-in-Err-clause-outcome
 returns-in-Err-clause-outcome g c =

@@ -1,5 +1,4 @@
 -- The contents under the name are those that were read.
-use Rattle.eff_text.proofs.Printing.{ArePrintable-from_warnings}
 use Rattle.rtsan_core.proofs.Sources.{file_refused}
 use Rattle.rtsan_core.proofs.reading.read_file.Goals as goal
 
@@ -10,14 +9,11 @@ returns-in-Err-clause-refused g c =
 pub returns-in-Ok-check-clause-found : goal.returns-in-Ok-check-clause-found
 returns-in-Ok-check-clause-found g c =
     let read = rw c.as_slice.ensures at c.in-Ok.ensures.read in
-    let placed = rw c.as_slice.ensures at c.in-Ok.ensures.placed in
     record {
       contents = c.in_ok-source.ensures.read;
-      unit = read c.args.file.now;
       ready = record {
-        warnings = c.in-Ok-check.ensures;
+        verdicts = c.in-Ok-check.ensures;
         short = c.in_ok-source.ensures.short;
-        placed = placed;
-        printable = ArePrintable-from_warnings c.in_ok-source.source c.in-Ok.unit c.in-Ok-check.verdicts c.in-Ok-check.ensures c.in_ok-source.ensures.short placed;
+        read = read;
       };
     }

@@ -1,0 +1,11 @@
+pub mod Entries
+pub mod Lies
+pub mod Compiled
+pub mod Sizes
+pub mod Emits
+pub mod Functions
+pub mod Names
+pub mod Refusals
+pub mod Called
+pub mod Frames
+pub mod Kinds

@@ -1,0 +1,13 @@
+pub mod Telling
+pub mod Machines
+pub mod Following
+pub mod Onward
+pub mod Growing
+pub mod Turning
+pub mod Fewness
+pub mod Stacking
+pub mod Along
+pub mod Calls
+pub mod Dealt
+pub mod Named
+pub mod Begun

@@ -1,0 +1,10 @@
+pub mod Worlds
+pub mod Rows
+pub mod Detecting
+pub mod Judging
+pub mod Writing
+pub mod Threads
+pub mod Called
+pub mod UnderWay
+pub mod Slices
+pub mod Blanks

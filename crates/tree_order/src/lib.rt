@@ -1,0 +1,2 @@
+//! The order of a syntax tree in its source.
+#![tactic(auto)]

@@ -1,0 +1,4 @@
+pub mod Completed
+pub mod Further
+pub mod Ordered
+pub mod Scoped

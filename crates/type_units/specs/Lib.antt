@@ -1,0 +1,5 @@
+pub mod Answers
+pub mod Ending
+pub mod Reserved
+pub mod Sites
+pub mod Words
